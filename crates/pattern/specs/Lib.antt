@@ -1,0 +1,5 @@
+pub mod Lists
+pub mod Meaning
+pub mod Judge
+pub mod Recogniser
+pub mod Model
