@@ -1,0 +1,9 @@
+pub mod Basics
+pub mod Block
+pub mod Rounds
+pub mod Running
+pub mod Fragment
+pub mod Deadline
+pub mod Orderings
+pub mod Rules
+pub mod Standing
