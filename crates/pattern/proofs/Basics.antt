@@ -4,6 +4,7 @@ use mathlib.Core.Logic.{_⊎_, inl, inr, _≢_}
 use mathlib.Core.Bool.{Bool, true, false, cond, not, _&&_, _||_}
 use mathlib.Core.List.{List, [], _∷_, _++_, map}
 use Prim.Native.Nat.{ℕ}
+use native.Mathlib.Omega.{arith}
 use lib.Dec.{T, eqb, eqb→eq, T-not}
 use borrow.Author.Tests.{eq-eqb}
 use Rattle.pattern.specs.Lists.{In, Distinct, Each, allOf, anyOf, isIn}
@@ -41,6 +42,10 @@ is-true false t = absurd t
 pub is-false : (b : Bool) → T (not b) → b ≡ false
 is-false true t = absurd t
 is-false false t = refl
+
+pub and-true-or : (b : Bool) → ((b || false) && true) ≡ b
+and-true-or true = refl
+and-true-or false = refl
 
 -- a test has one of two results
 pub test : (b : Bool) → T b ⊎ T (not b)
@@ -137,3 +142,6 @@ isIn→ n (m ∷ l) t = look (either (eqb n m) (isIn n l) t) (isIn→ n l)
 pub isIn← : (n : ℕ) (l : List ℕ) → In n l → T (isIn n l)
 isIn← n (m ∷ l) (inl e) = either-l (eqb n m) (isIn n l) (rw (eq-eqb n m e) tt)
 isIn← n (m ∷ l) (inr i) = either-r (eqb n m) (isIn n l) (isIn← n l i)
+
+pub zero-one : _≡_ {A = ℕ} 0 1 → ⊥
+zero-one e = omega arith

@@ -235,7 +235,7 @@ module _ (f : Checked) where
       same [] = refl
       same (r ∷ l) = ap (λ (t : List Range). r ∷ t) (same l)
 
-  start-count : (m : ℕ) (r : Range) → In r (f .fragment .ranges) → m ≡ r .name → counts m 0 (slotsIn f (X .start f)) ≡ 1
+  pub start-count : (m : ℕ) (r : Range) → In r (f .fragment .ranges) → m ≡ r .name → counts m 0 (slotsIn f (X .start f)) ≡ 1
   start-count m r i e = rw start-slots (counts-own m 0 startSlots (one (f .fragment .join) (f .fragment .ranges) (f .fine) startSlots start-ranges) (slot r unbegun) (in-map (λ (r : Range). slot r unbegun) (f .fragment .ranges) r i) e)
 
   module _ (m : ℕ) where
@@ -273,7 +273,7 @@ module _ (f : Checked) where
             let (x, k, q) = first-of y h in
             inl (ap (λ (s : Slot). s .state) q ∙ ap (λ (c : Class). move (f .fragment .join) x 0 unbegun c) (within-sibling m x (λ (z : m ≡ x .name). n (ap (λ (s : Slot). s .range .name) q ∙ sym z ∙ e))))
 
-    first-range : T (X .has f m) → (r : Range) × In r (f .fragment .ranges) × (m ≡ r .name)
+    pub first-range : T (X .has f m) → (r : Range) × In r (f .fragment .ranges) × (m ≡ r .name)
     first-range h = of-map (λ (r : Range). r .name) (f .fragment .ranges) m (isIn→ m (fragmentNames (f .fragment)) h)
 
     only-range : (r : Range) → In r (f .fragment .ranges) → m ≡ r .name → (x : Range) → In x (f .fragment .ranges) → x .name ≡ m → x ≡ r
@@ -385,3 +385,8 @@ laws = record {
   ends = ends;
   more = more;
 }
+
+-- the states of a place are running
+pub running : (f : Checked) (s : Held) → laws .Sane f s → Sane f s
+unfolding laws
+running f s h = h

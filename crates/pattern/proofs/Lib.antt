@@ -7,3 +7,11 @@ pub mod Deadline
 pub mod Orderings
 pub mod Rules
 pub mod Standing
+pub mod Keeps
+pub mod Numbering
+pub mod Places
+pub mod Status
+pub mod Tracks
+pub mod Traces
+pub mod Oracle
+pub mod Agreement
