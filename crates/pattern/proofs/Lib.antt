@@ -15,3 +15,6 @@ pub mod Tracks
 pub mod Traces
 pub mod Oracle
 pub mod Agreement
+pub mod WellFormed
+pub mod Marked
+pub mod Consequences

@@ -1,0 +1,67 @@
+-- Well-formedness as a test that computes, for rules that are written out.
+-- Assumes nothing.
+use mathlib.Core.Bool.{Bool, true, false, not, _&&_}
+use mathlib.Core.List.{List, [], _∷_}
+use Prim.Native.Nat.{ℕ}
+use lib.Dec.{T, leb, leb→le, T-not}
+use lib.ListN.{length}
+use Rattle.pattern.specs.Lists.{In, Distinct, Each, isIn, allOf}
+use Rattle.pattern.specs.Meaning.{Range, Fragment, Kind, once, repeated, timed, Rule, namesOf, Between, WellFormedRange, WellFormedFragment, WellFormedOrdering, WellFormedKind, WellFormed}
+use Rattle.pattern.proofs.Basics.{both-l, both-r, isIn←}
+
+abbrev pub between : ℕ → ℕ → ℕ → Bool
+between a b n = leb a n && leb n b
+
+abbrev pub okRange : Range → Bool
+okRange r = leb (r .name) 63 && (leb 1 (r .u) && between (r .u) 65535 (r .v))
+
+abbrev pub okFragment : Fragment → Bool
+okFragment f = between 1 8 (length (f .ranges)) && allOf okRange (f .ranges)
+
+abbrev pub okOrdering : List Fragment → Bool
+okOrdering fs = between 1 8 (length fs) && allOf okFragment fs
+
+abbrev pub okKind : Kind → Bool
+okKind (once i) = leb i 63
+okKind (repeated i) = leb i 63
+okKind (timed q t) = okOrdering q && leb t 4294967295
+
+abbrev pub distinct : List ℕ → Bool
+distinct [] = true
+distinct (x ∷ xs) = not (isIn x xs) && distinct xs
+
+abbrev pub okRule : Rule → Bool
+okRule r = okOrdering (r .p) && (okKind (r .kind) && distinct (namesOf r))
+
+between→ : (a b n : ℕ) → T (between a b n) → Between a b n
+between→ a b n t = (leb→le a n (both-l (leb a n) (leb n b) t), leb→le n b (both-r (leb a n) (leb n b) t))
+
+each→ : {A : Type 0} (ok : A → Bool) (P : A → Type 0) → ((x : A) → T (ok x) → P x) → (xs : List A) → T (allOf ok xs) → Each P xs
+each→ ok P h [] t = tt
+each→ ok P h (x ∷ xs) t = (h x (both-l (ok x) (allOf ok xs) t), each→ ok P h xs (both-r (ok x) (allOf ok xs) t))
+
+range→ : (r : Range) → T (okRange r) → WellFormedRange r
+range→ r t =
+    let t′ = both-r (leb (r .name) 63) (leb 1 (r .u) && between (r .u) 65535 (r .v)) t in
+    let (o, f) = between→ (r .u) 65535 (r .v) (both-r (leb 1 (r .u)) (between (r .u) 65535 (r .v)) t′) in
+    record { named = leb→le (r .name) 63 (both-l (leb (r .name) 63) (leb 1 (r .u) && between (r .u) 65535 (r .v)) t); some = leb→le 1 (r .u) (both-l (leb 1 (r .u)) (between (r .u) 65535 (r .v)) t′); order = o; few = f }
+
+fragment→ : (f : Fragment) → T (okFragment f) → WellFormedFragment f
+fragment→ f t = record { count = between→ 1 8 (length (f .ranges)) (both-l (between 1 8 (length (f .ranges))) (allOf okRange (f .ranges)) t); ranges = each→ okRange WellFormedRange range→ (f .ranges) (both-r (between 1 8 (length (f .ranges))) (allOf okRange (f .ranges)) t) }
+
+ordering→ : (fs : List Fragment) → T (okOrdering fs) → WellFormedOrdering fs
+ordering→ fs t = record { count = between→ 1 8 (length fs) (both-l (between 1 8 (length fs)) (allOf okFragment fs) t); fragments = each→ okFragment WellFormedFragment fragment→ fs (both-r (between 1 8 (length fs)) (allOf okFragment fs) t) }
+
+kind→ : (k : Kind) → T (okKind k) → WellFormedKind k
+kind→ (once i) t = leb→le i 63 t
+kind→ (repeated i) t = leb→le i 63 t
+kind→ (timed q t) h = (ordering→ q (both-l (okOrdering q) (leb t 4294967295) h), leb→le t 4294967295 (both-r (okOrdering q) (leb t 4294967295) h))
+
+pub distinct→ : (l : List ℕ) → T (distinct l) → Distinct l
+distinct→ [] t = tt
+distinct→ (x ∷ xs) t = (λ i. T-not (isIn x xs) (both-l (not (isIn x xs)) (distinct xs) t) (isIn← x xs i), distinct→ xs (both-r (not (isIn x xs)) (distinct xs) t))
+
+pub ok→ : (r : Rule) → T (okRule r) → WellFormed r
+ok→ r t =
+    let t′ = both-r (okOrdering (r .p)) (okKind (r .kind) && distinct (namesOf r)) t in
+    record { p = ordering→ (r .p) (both-l (okOrdering (r .p)) (okKind (r .kind) && distinct (namesOf r)) t); kind = kind→ (r .kind) (both-l (okKind (r .kind)) (distinct (namesOf r)) t′); distinct = distinct→ (namesOf r) (both-r (okKind (r .kind)) (distinct (namesOf r)) t′) }

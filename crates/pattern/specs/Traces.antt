@@ -1,0 +1,95 @@
+-- Document 01's "Traces to settle arguments" as one table, the misreadings at its end turned into traces among them. That the judge gives each row's verdict is proved in `proofs/Marked`.
+-- Assumes nothing.
+use mathlib.Core.List.{List, [], _∷_}
+use Prim.Native.Nat.{ℕ}
+use Rattle.pattern.specs.Meaning.{Range, Join, all, any, Fragment, Rule, once, repeated, timed}
+use Rattle.pattern.specs.Judge.{Observation, event, clock, Verdict, allWhole, someOpen, brokenAt, Answer, verdict, refused}
+
+-- "n[u,v]"
+abbrev pub range : ℕ → ℕ → ℕ → Range
+range n u v = record { name = n; u = u; v = v }
+
+abbrev pub fragment : Join → List Range → Fragment
+fragment j rs = record { join = j; ranges = rs }
+
+-- "Rule T: kind 2, P = 0[2,3], Q = 1[1,2], t = 10"
+abbrev pub T : Rule
+T = record { kind = timed (fragment all (range 1 1 2 ∷ []) ∷ []) 10; p = fragment all (range 0 2 3 ∷ []) ∷ [] }
+
+-- "Rule R: kind 1, {0, 1} all before 2, bounds [1,1]"
+abbrev pub R : Rule
+R = record { kind = repeated 2; p = fragment all (range 0 1 1 ∷ range 1 1 1 ∷ []) ∷ [] }
+
+-- "Rule N: R as kind 0 with any"
+abbrev pub N : Rule
+N = record { kind = once 2; p = fragment any (range 0 1 1 ∷ range 1 1 1 ∷ []) ∷ [] }
+
+-- a sheet of one rule, what is observed, and what is due: the last answer, the number taken and the verdict
+pub record Row : Type 0 where
+  pub rule : Rule
+  pub seen : List Observation
+  pub answer : Answer
+  pub taken : ℕ
+  pub verdict : Verdict
+
+abbrev pub row : Rule → List Observation → ℕ → Verdict → Row
+row r os n v = record { rule = r; seen = os; answer = verdict v; taken = n; verdict = v }
+
+abbrev pub refusedRow : Rule → List Observation → ℕ → ℕ → Verdict → Row
+refusedRow r os number n v = record { rule = r; seen = os; answer = refused number; taken = n; verdict = v }
+
+-- the verdicts on one rule, whose bit is 1
+abbrev pub isOpen : Verdict
+isOpen = someOpen 1
+
+abbrev pub brokenNow : ℕ → Verdict
+brokenNow k = brokenAt k 1
+
+-- the traces marked ★
+abbrev pub marked : List Row
+marked =
+    row T [] 0 allWhole
+    ∷ row T (event 0 0 ∷ event 0 5 ∷ event 1 15 ∷ []) 3 allWhole
+    ∷ row T (event 0 0 ∷ event 0 5 ∷ event 1 16 ∷ []) 3 (brokenNow 3)
+    ∷ row T (event 0 0 ∷ event 0 5 ∷ clock 100 ∷ []) 3 isOpen
+    ∷ row T (event 0 0 ∷ event 0 1 ∷ event 0 2 ∷ clock 12 ∷ []) 4 isOpen
+    ∷ row T (event 0 0 ∷ event 0 1 ∷ event 0 2 ∷ clock 13 ∷ []) 4 (brokenNow 4)
+    ∷ row T (event 0 0 ∷ event 0 5 ∷ event 1 15 ∷ clock 99 ∷ []) 4 allWhole
+    ∷ row T (event 0 0 ∷ event 0 5 ∷ event 1 15 ∷ clock 99 ∷ event 1 99 ∷ []) 5 (brokenNow 5)
+    ∷ row T (event 0 0 ∷ event 0 0 ∷ event 0 0 ∷ event 0 0 ∷ []) 4 (brokenNow 4)
+    ∷ row R (event 1 0 ∷ event 0 0 ∷ event 2 0 ∷ []) 3 allWhole
+    ∷ row R (event 0 0 ∷ event 1 0 ∷ event 0 0 ∷ []) 3 (brokenNow 3)
+    ∷ row N (event 0 0 ∷ event 2 0 ∷ event 2 0 ∷ event 1 0 ∷ []) 4 allWhole
+    ∷ []
+
+-- the others, and the printed case
+abbrev pub unmarked : List Row
+unmarked =
+    row T (event 0 0 ∷ event 1 0 ∷ []) 2 (brokenNow 2)
+    ∷ refusedRow T (event 0 7 ∷ event 1 6 ∷ []) 11 1 isOpen
+    ∷ row N (event 2 0 ∷ []) 1 (brokenNow 1)
+    ∷ row R (event 1 5 ∷ event 0 5 ∷ event 2 9 ∷ event 2 10 ∷ []) 4 (brokenNow 4)
+    ∷ []
+
+-- "Misreadings to shut out", each by a trace at which it would answer otherwise
+abbrev pub misreadings : List Row
+misreadings =
+    -- P's end taken when u is reached: then 1@15 would be late
+    row T (event 0 0 ∷ event 0 1 ∷ event 0 5 ∷ event 1 15 ∷ []) 4 allWhole
+    -- a block reopened after a sibling, in a second round
+    ∷ row R (event 1 0 ∷ event 0 0 ∷ event 2 0 ∷ event 0 0 ∷ event 1 0 ∷ event 0 0 ∷ []) 6 (brokenNow 6)
+    -- a deadline that fires only on the rule's own events: an event on another name is past it
+    ∷ row T (event 0 0 ∷ event 0 1 ∷ event 0 2 ∷ event 7 13 ∷ []) 4 (brokenNow 4)
+    -- t itself counted as late, by the clock
+    ∷ row T (event 0 0 ∷ event 0 1 ∷ event 0 2 ∷ clock 12 ∷ event 1 12 ∷ []) 5 allWhole
+    -- a finished Q called late by the clock alone: the next P may start at any time
+    ∷ row T (event 0 0 ∷ event 0 5 ∷ event 1 15 ∷ clock 99 ∷ event 0 200 ∷ []) 5 isOpen
+    ∷ []
+
+-- refusals, and observations after a break: "A stopped book gives that same answer to every later observation, unchecked"
+abbrev pub refusals : List Row
+refusals =
+    refusedRow T (event 0 7 ∷ event 64 6 ∷ []) 12 1 isOpen
+    ∷ row T (event 0 7 ∷ event 64 9 ∷ clock 3 ∷ event 0 7 ∷ []) 2 isOpen
+    ∷ row T (event 0 7 ∷ event 1 8 ∷ event 64 0 ∷ clock 0 ∷ []) 2 (brokenNow 2)
+    ∷ []
