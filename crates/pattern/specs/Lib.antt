@@ -3,3 +3,4 @@ pub mod Meaning
 pub mod Judge
 pub mod Recogniser
 pub mod Model
+pub mod Numbers
