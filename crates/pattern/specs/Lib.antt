@@ -4,3 +4,4 @@ pub mod Judge
 pub mod Recogniser
 pub mod Model
 pub mod Numbers
+pub mod Entries
