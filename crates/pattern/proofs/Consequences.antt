@@ -1,15 +1,18 @@
--- Two facts of the meaning itself, by name: a broken rule stays broken, and a rule's status depends on its own events and the times only.
+-- Facts by name: a broken rule stays broken; a rule's status depends on its own events and the times only; the judge's list never has more than 4,294,967,295 observations.
 -- Assumes nothing.
 use mathlib.Core.Path.{_≡_, refl, sym, _∙_, ap, subst}
 use mathlib.Core.Bool.{Bool, true, false, cond}
+use mathlib.Core.Option.{Option, none, some}
 use mathlib.Core.List.{List, [], _∷_, _++_, map, append-assoc, append-nil}
-use Prim.Native.Nat.{ℕ, _≤_}
-use native.Mathlib.Nat.{le-trans}
-use lib.Dec.{T}
+use Prim.Native.Nat.{ℕ, _+_, _≤_}
+use native.Mathlib.Omega.{arith}
+use lib.Dec.{T, leb, ltb, lit≤}
+use lib.ListN.{length, length-append}
+use borrow.Author.Tests.{leb-false}
 use Rattle.pattern.specs.Lists.{In, Each, isIn}
 use Rattle.pattern.specs.Meaning.{Event, Rule, namesOf, On, Rising, Matches, Continuation, Status, broken, Broken, Judged}
-use Rattle.pattern.specs.Judge.{Observation, event, clock, timeOf, own, traceOf, latest, latestFrom, NeverFalls}
-use Rattle.pattern.proofs.Basics.{isIn→}
+use Rattle.pattern.specs.Judge.{Observation, event, clock, timeOf, own, traceOf, latest, latestFrom, NeverFalls, Oracle, Verdict, allWhole, someOpen, brokenAt, badName, refusal, Kept, nothing, unlessRefused, unlessBroken, judge, judgeKeeps}
+use Rattle.pattern.proofs.Basics.{isIn→, zero-one}
 use Rattle.pattern.proofs.Orderings.{rising-from}
 use Rattle.pattern.proofs.Traces.{trace-snoc, latest-snoc}
 
@@ -77,3 +80,28 @@ own-events-only r os os′ e s j =
     let t : traceOf r os ≡ traceOf r os′ = sym (trace-seen r os) ∙ ap (traceOf r) e ∙ trace-seen r os′ in
     let l : latest os ≡ latest os′ = sym (latest-seen r 0 os) ∙ ap latest e ∙ latest-seen r 0 os′ in
     subst (λ (x : List Event). Judged r x (latest os′) s) t (subst (λ (n : ℕ). Judged r (traceOf r os) n s) l j)
+
+-- ---- the number taken fits a u32: refusal 13
+
+module _ (oracle : Oracle) where
+  fits-unless : (k : Kept) (o : Observation) (n : Option ℕ) → refusal (latest (k .taken)) (length (k .taken)) o ≡ n → length (k .taken) ≤ 4294967295 → length (unlessRefused oracle k o n .kept .taken) ≤ 4294967295
+  fits-unless k o (some n) e h = h
+  fits-unless k o none e h = rw (length-append (k .taken) (o ∷ [])) (look (badName o) (ltb (timeOf o) (latest (k .taken))) (leb 4294967295 (length (k .taken))) refl 12 11 13 e)
+    where
+      look : (a b d : Bool) → leb 4294967295 (length (k .taken)) ≡ d → (x y z : ℕ) → cond a (some x) (cond b (some y) (cond d (some z) none)) ≡ none → length (k .taken) + 1 ≤ 4294967295
+      look true b d q x y z e′ = let c : _≡_ {A = ℕ} 0 1 = cc in absurd (zero-one c)
+      look false true d q x y z e′ = let c : _≡_ {A = ℕ} 0 1 = cc in absurd (zero-one c)
+      look false false true q x y z e′ = let c : _≡_ {A = ℕ} 0 1 = cc in absurd (zero-one c)
+      look false false false q x y z e′ = omega (arith, leb-false 4294967295 (length (k .taken)) q)
+
+  fits-turn : (k : Kept) (o : Observation) (v : Verdict) → length (k .taken) ≤ 4294967295 → length (unlessBroken oracle k o v .kept .taken) ≤ 4294967295
+  fits-turn k o (brokenAt n m) h = h
+  fits-turn k o allWhole h = fits-unless k o (refusal (latest (k .taken)) (length (k .taken)) o) refl h
+  fits-turn k o (someOpen m) h = fits-unless k o (refusal (latest (k .taken)) (length (k .taken)) o) refl h
+
+  fits-all : (os : List Observation) (k : Kept) → length (k .taken) ≤ 4294967295 → length (judgeKeeps oracle k os .taken) ≤ 4294967295
+  fits-all [] k h = h
+  fits-all (o ∷ os) k h = fits-all os (judge oracle k o .kept) (fits-turn k o (k .verdict) h)
+
+  pub taken-fits : (os : List Observation) → length (judgeKeeps oracle nothing os .taken) ≤ 4294967295
+  taken-fits os = fits-all os nothing (lit≤ tt)

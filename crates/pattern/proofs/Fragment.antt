@@ -13,9 +13,10 @@ use borrow.Author.Tests.{eq-eqb}
 use Rattle.pattern.specs.Lists.{In, Distinct, Each, isIn}
 use Rattle.pattern.specs.Meaning.{Range, Join, Fragment, Enough, AtMost, Between, MatchesFragment, fragmentNames}
 use Rattle.pattern.specs.Recogniser.{State, idle, unbegun, waiting, counting, done, error, Class, own, sibling, next, hasEnough, hasRoom, mayBeLeftOut, move, isIdle, isCounting, isError, Slot, slots, moves, counts, notBegun, within, erred, complete, canGrow}
+use Rattle.pattern.specs.Numbers.{stateNumber}
 use Rattle.pattern.proofs.Basics.{is-true, test, in-map, distinct-map, of-map, all→, any→, any←, isIn→, isIn←}
 use Rattle.pattern.proofs.Block.{fewer, Choice, Parse, close-block, open-block, Opened, least, least-blocks, InFragment, match→choice, choice→match, match-some}
-use Rattle.pattern.proofs.Running.{code, Calm, slot, slot-is, turn, own-not-waiting, same-ranges, within-own, within-sibling, room, error-stays, error-not-idle, counts-own, Running, Waits, Fine, one, in-range, slot-of, has-slot, waits-apart, some-waits, kind, Next, longer, begun, failed, next?, run-longer, run-begun, count-longer, count-begun, parse-longer, parse-begun, Parsed, parsed, closed-enough, closed→, closed←}
+use Rattle.pattern.proofs.Running.{Calm, slot, slot-is, turn, own-not-waiting, same-ranges, within-own, within-sibling, room, error-stays, error-not-idle, counts-own, Running, Waits, Fine, one, in-range, slot-of, has-slot, waits-apart, some-waits, kind, Next, longer, begun, failed, next?, run-longer, run-begun, count-longer, count-begun, parse-longer, parse-begun, Parsed, parsed, closed-enough, closed→, closed←}
 use Rattle.pattern.proofs.Rounds.{Recogniser, Takes, Laws}
 
 -- the eight states and the one count
@@ -137,7 +138,7 @@ module _ (f : Checked) where
 -- ---- the ranges that wait, as a list
 
 isWaiting : State → Bool
-isWaiting s = eqb (code s) 2
+isWaiting s = eqb (stateNumber s) 2
 
 waiting-is : (s : State) → T (isWaiting s) → s ≡ waiting
 unfolding isWaiting

@@ -1,7 +1,7 @@
 pub mod Basics
 pub mod Block
-pub mod Rounds
 pub mod Running
+pub mod Rounds
 pub mod Fragment
 pub mod Deadline
 pub mod Orderings
@@ -18,3 +18,6 @@ pub mod Agreement
 pub mod WellFormed
 pub mod Marked
 pub mod Consequences
+pub mod Numbers
+pub mod Table
+pub mod Moves

@@ -4,16 +4,15 @@ use mathlib.Core.Path.{_≡_, refl, sym, _∙_, ap, ap₂}
 use mathlib.Core.Bool.{Bool, true, false, _&&_}
 use mathlib.Core.List.{List, [], _∷_, _++_}
 use Prim.Native.Nat.{ℕ}
-use lib.Dec.{T, eqb, eqb→eq, lit≤}
+use lib.Dec.{T, eqb, eqb→eq}
 use lib.ListN.{length}
 use Rattle.pattern.specs.Lists.{In, allOf}
-use Rattle.pattern.specs.Meaning.{Rule}
 use Rattle.pattern.specs.Judge.{Oracle, Right, Verdict, allWhole, someOpen, brokenAt, Answer, verdict, refused, nothing, judgeAnswers, judgeKeeps}
 use Rattle.pattern.specs.Model.{freshMonitor, answers, monitorAfter}
 use Rattle.pattern.specs.Agreement.{WellFormedRules}
-use Rattle.pattern.specs.Traces.{Row, marked, unmarked, misreadings, refusals}
+use Rattle.pattern.specs.Traces.{Row, marked, unmarked, misreadings, refusals, masks}
 use Rattle.pattern.proofs.Basics.{both-l, both-r, all→}
-use Rattle.pattern.proofs.WellFormed.{okRule, ok→}
+use Rattle.pattern.proofs.WellFormed.{okRules, oks→}
 use Rattle.pattern.proofs.Agreement.{agreement}
 
 -- ---- the test of a row
@@ -58,36 +57,33 @@ lastOf d [] = d
 lastOf d (a ∷ as′) = lastOf a as′
 
 module _ (row : Row) where
-  abbrev rules : List Rule
-  rules = row .rule ∷ []
-
   abbrev lastAnswer : Answer
-  lastAnswer = lastOf (verdict allWhole) (answers (row .rule ∷ []) (freshMonitor (row .rule ∷ [])) (row .seen))
+  lastAnswer = lastOf (verdict allWhole) (answers (row .rules) (freshMonitor (row .rules)) (row .seen))
 
   abbrev finalTaken : ℕ
-  finalTaken = monitorAfter (row .rule ∷ []) (freshMonitor (row .rule ∷ [])) (row .seen) .taken
+  finalTaken = monitorAfter (row .rules) (freshMonitor (row .rules)) (row .seen) .taken
 
   abbrev finalVerdict : Verdict
-  finalVerdict = monitorAfter (row .rule ∷ []) (freshMonitor (row .rule ∷ [])) (row .seen) .verdict
+  finalVerdict = monitorAfter (row .rules) (freshMonitor (row .rules)) (row .seen) .verdict
 
   abbrev right : Bool
-  right = okRule (row .rule) && (sameAnswer lastAnswer (row .answer) && (eqb finalTaken (row .taken) && sameVerdict finalVerdict (row .verdict)))
+  right = okRules (row .rules) && (sameAnswer lastAnswer (row .answer) && (eqb finalTaken (row .taken) && sameVerdict finalVerdict (row .verdict)))
 
   -- ---- what a passed test says of the judge
 
   pub record Settled : Type 0 where
     -- a judge exists, and every judge's last answer, list and verdict are the row's
-    pub exists : (oracle : Oracle) × Right (row .rule ∷ []) oracle
-    pub answer : (oracle : Oracle) → Right (row .rule ∷ []) oracle → lastOf (verdict allWhole) (judgeAnswers oracle nothing (row .seen)) ≡ row .answer
-    pub taken : (oracle : Oracle) → Right (row .rule ∷ []) oracle → length (judgeKeeps oracle nothing (row .seen) .taken) ≡ row .taken
-    pub verdict : (oracle : Oracle) → Right (row .rule ∷ []) oracle → judgeKeeps oracle nothing (row .seen) .verdict ≡ row .verdict
+    pub exists : (oracle : Oracle) × Right (row .rules) oracle
+    pub answer : (oracle : Oracle) → Right (row .rules) oracle → lastOf (verdict allWhole) (judgeAnswers oracle nothing (row .seen)) ≡ row .answer
+    pub taken : (oracle : Oracle) → Right (row .rules) oracle → length (judgeKeeps oracle nothing (row .seen) .taken) ≡ row .taken
+    pub verdict : (oracle : Oracle) → Right (row .rules) oracle → judgeKeeps oracle nothing (row .seen) .verdict ≡ row .verdict
 
   settled : T right → Settled
   settled t =
-      let t₁ = both-r (okRule (row .rule)) (sameAnswer lastAnswer (row .answer) && (eqb finalTaken (row .taken) && sameVerdict finalVerdict (row .verdict))) t in
+      let t₁ = both-r (okRules (row .rules)) (sameAnswer lastAnswer (row .answer) && (eqb finalTaken (row .taken) && sameVerdict finalVerdict (row .verdict))) t in
       let t₂ = both-r (sameAnswer lastAnswer (row .answer)) (eqb finalTaken (row .taken) && sameVerdict finalVerdict (row .verdict)) t₁ in
-      let w : WellFormedRules (row .rule ∷ []) = record { count = (lit≤ tt, lit≤ tt); each = (ok→ (row .rule) (both-l (okRule (row .rule)) (sameAnswer lastAnswer (row .answer) && (eqb finalTaken (row .taken) && sameVerdict finalVerdict (row .verdict))) t), tt) } in
-      let a = agreement (row .rule ∷ []) w (row .seen) in
+      let w : WellFormedRules (row .rules) = oks→ (row .rules) (both-l (okRules (row .rules)) (sameAnswer lastAnswer (row .answer) && (eqb finalTaken (row .taken) && sameVerdict finalVerdict (row .verdict))) t) in
+      let a = agreement (row .rules) w (row .seen) in
       record {
         exists = a .judged;
         answer = λ o p. ap (lastOf (verdict allWhole)) (sym (a .agrees o p .answered)) ∙ answer→ lastAnswer (row .answer) (both-l (sameAnswer lastAnswer (row .answer)) (eqb finalTaken (row .taken) && sameVerdict finalVerdict (row .verdict)) t₁);
@@ -98,7 +94,7 @@ module _ (row : Row) where
 -- ---- the whole table
 
 abbrev pub table : List Row
-table = marked ++ (unmarked ++ (misreadings ++ refusals))
+table = marked ++ (unmarked ++ (misreadings ++ (refusals ++ masks)))
 
 pub settles : (row : Row) → In row table → Settled row
 settles row i = settled row (all→ right table tt row i)

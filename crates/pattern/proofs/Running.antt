@@ -14,19 +14,11 @@ use borrow.Author.Tests.{eq-eqb, ne-eqb}
 use Rattle.pattern.specs.Lists.{In, Distinct, Each, allOf, anyOf, isIn}
 use Rattle.pattern.specs.Meaning.{Range, Join, Fragment, Enough, AtMost, Between, MatchesFragment, fragmentNames}
 use Rattle.pattern.specs.Recogniser.{State, idle, unbegun, waiting, counting, done, error, Class, own, sibling, next, hasEnough, hasRoom, mayBeLeftOut, move, isIdle, isCounting, isError, nextCount, Slot, slots, moves, counts, notBegun, within, erred, complete, canGrow}
+use Rattle.pattern.specs.Numbers.{stateNumber}
 use Rattle.pattern.proofs.Basics.{is-true, is-false, test, same?, in-map, of-map, distinct-map, all→, all←, any→, any←, isIn→, isIn←}
 use Rattle.pattern.proofs.Block.{fewer, Choice, Parse, choice-map, close-block, open-block, Opened, choice-nil, nil-choice, least, least-blocks, InFragment, match→choice, choice→match, match-some}
 
 -- ---- small facts of the table
-
--- different states have different numbers
-abbrev pub code : State → ℕ
-code idle = 0
-code unbegun = 1
-code waiting = 2
-code counting = 3
-code done = 4
-code error = 5
 
 abbrev pub Calm : State → Type 0
 Calm s = (s ≡ waiting) ⊎ (s ≡ done)
@@ -55,23 +47,23 @@ enough r c h = is-true (hasEnough r c) (le→leb (r .u) c h)
 
 module _ (j : Join) (r : Range) (c : ℕ) where
   pub own-not-waiting : (s : State) → move j r c s own ≡ waiting → ⊥
-  own-not-waiting idle e = omega (arith, ap code e)
-  own-not-waiting unbegun e = omega (arith, ap code e)
-  own-not-waiting waiting e = omega (arith, ap code e)
+  own-not-waiting idle e = omega (arith, ap stateNumber e)
+  own-not-waiting unbegun e = omega (arith, ap stateNumber e)
+  own-not-waiting waiting e = omega (arith, ap stateNumber e)
   own-not-waiting counting e = look (hasRoom r c) e
     where
       look : (b : Bool) → cond b counting error ≡ waiting → ⊥
-      look true q = omega (arith, ap code q)
-      look false q = omega (arith, ap code q)
-  own-not-waiting done e = omega (arith, ap code e)
-  own-not-waiting error e = omega (arith, ap code e)
+      look true q = omega (arith, ap stateNumber q)
+      look false q = omega (arith, ap stateNumber q)
+  own-not-waiting done e = omega (arith, ap stateNumber e)
+  own-not-waiting error e = omega (arith, ap stateNumber e)
 
   sibling-counting : move j r c counting sibling ≡ waiting → ⊥
   sibling-counting e = look (hasEnough r c) e
     where
       look : (b : Bool) → cond b done error ≡ waiting → ⊥
-      look true q = omega (arith, ap code q)
-      look false q = omega (arith, ap code q)
+      look true q = omega (arith, ap stateNumber q)
+      look false q = omega (arith, ap stateNumber q)
 
   sibling-calm : (s : State) → Calm s → move j r c s sibling ≡ s
   sibling-calm s (inl e) = rw e
@@ -154,7 +146,7 @@ module _ (j : Join) (rs : List Range) (ok : Fine rs) (xs : List Slot) (c : ℕ) 
 
   -- a range that waits is not the one that counts
   pub waits-apart : (r : Range) → Waits xs r → r .name ≢ r₀ .name
-  waits-apart r i e = let z : slot r waiting ≡ slot r₀ counting = only (slot r waiting) (slot r₀ counting) i (run .here) e in omega (arith, ap (λ (x : Slot). code (x .state)) z)
+  waits-apart r i e = let z : slot r waiting ≡ slot r₀ counting = only (slot r waiting) (slot r₀ counting) i (run .here) e in omega (arith, ap (λ (x : Slot). stateNumber (x .state)) z)
 
   -- the state of a slot
   pub kind : (x : Slot) → In x xs → (x ≡ slot r₀ counting) ⊎ ((x .range .name ≢ r₀ .name) × Calm (x .state))

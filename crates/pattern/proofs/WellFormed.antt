@@ -7,30 +7,31 @@ use lib.Dec.{T, leb, leb→le, T-not}
 use lib.ListN.{length}
 use Rattle.pattern.specs.Lists.{In, Distinct, Each, isIn, allOf}
 use Rattle.pattern.specs.Meaning.{Range, Fragment, Kind, once, repeated, timed, Rule, namesOf, Between, WellFormedRange, WellFormedFragment, WellFormedOrdering, WellFormedKind, WellFormed}
+use Rattle.pattern.specs.Agreement.{WellFormedRules}
 use Rattle.pattern.proofs.Basics.{both-l, both-r, isIn←}
 
-abbrev pub between : ℕ → ℕ → ℕ → Bool
+abbrev between : ℕ → ℕ → ℕ → Bool
 between a b n = leb a n && leb n b
 
-abbrev pub okRange : Range → Bool
+abbrev okRange : Range → Bool
 okRange r = leb (r .name) 63 && (leb 1 (r .u) && between (r .u) 65535 (r .v))
 
-abbrev pub okFragment : Fragment → Bool
+abbrev okFragment : Fragment → Bool
 okFragment f = between 1 8 (length (f .ranges)) && allOf okRange (f .ranges)
 
-abbrev pub okOrdering : List Fragment → Bool
+abbrev okOrdering : List Fragment → Bool
 okOrdering fs = between 1 8 (length fs) && allOf okFragment fs
 
-abbrev pub okKind : Kind → Bool
+abbrev okKind : Kind → Bool
 okKind (once i) = leb i 63
 okKind (repeated i) = leb i 63
 okKind (timed q t) = okOrdering q && leb t 4294967295
 
-abbrev pub distinct : List ℕ → Bool
+abbrev distinct : List ℕ → Bool
 distinct [] = true
 distinct (x ∷ xs) = not (isIn x xs) && distinct xs
 
-abbrev pub okRule : Rule → Bool
+abbrev okRule : Rule → Bool
 okRule r = okOrdering (r .p) && (okKind (r .kind) && distinct (namesOf r))
 
 between→ : (a b n : ℕ) → T (between a b n) → Between a b n
@@ -57,11 +58,17 @@ kind→ (once i) t = leb→le i 63 t
 kind→ (repeated i) t = leb→le i 63 t
 kind→ (timed q t) h = (ordering→ q (both-l (okOrdering q) (leb t 4294967295) h), leb→le t 4294967295 (both-r (okOrdering q) (leb t 4294967295) h))
 
-pub distinct→ : (l : List ℕ) → T (distinct l) → Distinct l
+distinct→ : (l : List ℕ) → T (distinct l) → Distinct l
 distinct→ [] t = tt
 distinct→ (x ∷ xs) t = (λ i. T-not (isIn x xs) (both-l (not (isIn x xs)) (distinct xs) t) (isIn← x xs i), distinct→ xs (both-r (not (isIn x xs)) (distinct xs) t))
 
-pub ok→ : (r : Rule) → T (okRule r) → WellFormed r
+ok→ : (r : Rule) → T (okRule r) → WellFormed r
 ok→ r t =
     let t′ = both-r (okOrdering (r .p)) (okKind (r .kind) && distinct (namesOf r)) t in
     record { p = ordering→ (r .p) (both-l (okOrdering (r .p)) (okKind (r .kind) && distinct (namesOf r)) t); kind = kind→ (r .kind) (both-l (okKind (r .kind)) (distinct (namesOf r)) t′); distinct = distinct→ (namesOf r) (both-r (okKind (r .kind)) (distinct (namesOf r)) t′) }
+
+abbrev pub okRules : List Rule → Bool
+okRules rs = between 1 16 (length rs) && allOf okRule rs
+
+pub oks→ : (rs : List Rule) → T (okRules rs) → WellFormedRules rs
+oks→ rs t = record { count = between→ 1 16 (length rs) (both-l (between 1 16 (length rs)) (allOf okRule rs) t); each = each→ okRule WellFormed ok→ rs (both-r (between 1 16 (length rs)) (allOf okRule rs) t) }

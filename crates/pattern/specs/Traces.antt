@@ -24,21 +24,30 @@ R = record { kind = repeated 2; p = fragment all (range 0 1 1 ∷ range 1 1 1 �
 abbrev pub N : Rule
 N = record { kind = once 2; p = fragment any (range 0 1 1 ∷ range 1 1 1 ∷ []) ∷ [] }
 
--- a sheet of one rule, what is observed, and what is due: the last answer, the number taken and the verdict
+abbrev pub onlyT : List Rule
+onlyT = T ∷ []
+
+abbrev pub onlyR : List Rule
+onlyR = R ∷ []
+
+abbrev pub onlyN : List Rule
+onlyN = N ∷ []
+
+-- the rules of a sheet, what is observed, and what is due: the last answer, the number taken and the verdict
 pub record Row : Type 0 where
-  pub rule : Rule
+  pub rules : List Rule
   pub seen : List Observation
   pub answer : Answer
   pub taken : ℕ
   pub verdict : Verdict
 
-abbrev pub row : Rule → List Observation → ℕ → Verdict → Row
-row r os n v = record { rule = r; seen = os; answer = verdict v; taken = n; verdict = v }
+abbrev pub row : List Rule → List Observation → ℕ → Verdict → Row
+row rs os n v = record { rules = rs; seen = os; answer = verdict v; taken = n; verdict = v }
 
-abbrev pub refusedRow : Rule → List Observation → ℕ → ℕ → Verdict → Row
-refusedRow r os number n v = record { rule = r; seen = os; answer = refused number; taken = n; verdict = v }
+abbrev pub refusedRow : List Rule → List Observation → ℕ → ℕ → Verdict → Row
+refusedRow rs os number n v = record { rules = rs; seen = os; answer = refused number; taken = n; verdict = v }
 
--- the verdicts on one rule, whose bit is 1
+-- the verdicts on a sheet of one rule, whose bit is 1
 abbrev pub isOpen : Verdict
 isOpen = someOpen 1
 
@@ -48,48 +57,60 @@ brokenNow k = brokenAt k 1
 -- the traces marked ★
 abbrev pub marked : List Row
 marked =
-    row T [] 0 allWhole
-    ∷ row T (event 0 0 ∷ event 0 5 ∷ event 1 15 ∷ []) 3 allWhole
-    ∷ row T (event 0 0 ∷ event 0 5 ∷ event 1 16 ∷ []) 3 (brokenNow 3)
-    ∷ row T (event 0 0 ∷ event 0 5 ∷ clock 100 ∷ []) 3 isOpen
-    ∷ row T (event 0 0 ∷ event 0 1 ∷ event 0 2 ∷ clock 12 ∷ []) 4 isOpen
-    ∷ row T (event 0 0 ∷ event 0 1 ∷ event 0 2 ∷ clock 13 ∷ []) 4 (brokenNow 4)
-    ∷ row T (event 0 0 ∷ event 0 5 ∷ event 1 15 ∷ clock 99 ∷ []) 4 allWhole
-    ∷ row T (event 0 0 ∷ event 0 5 ∷ event 1 15 ∷ clock 99 ∷ event 1 99 ∷ []) 5 (brokenNow 5)
-    ∷ row T (event 0 0 ∷ event 0 0 ∷ event 0 0 ∷ event 0 0 ∷ []) 4 (brokenNow 4)
-    ∷ row R (event 1 0 ∷ event 0 0 ∷ event 2 0 ∷ []) 3 allWhole
-    ∷ row R (event 0 0 ∷ event 1 0 ∷ event 0 0 ∷ []) 3 (brokenNow 3)
-    ∷ row N (event 0 0 ∷ event 2 0 ∷ event 2 0 ∷ event 1 0 ∷ []) 4 allWhole
+    row onlyT [] 0 allWhole
+    ∷ row onlyT (event 0 0 ∷ event 0 5 ∷ event 1 15 ∷ []) 3 allWhole
+    ∷ row onlyT (event 0 0 ∷ event 0 5 ∷ event 1 16 ∷ []) 3 (brokenNow 3)
+    ∷ row onlyT (event 0 0 ∷ event 0 5 ∷ clock 100 ∷ []) 3 isOpen
+    ∷ row onlyT (event 0 0 ∷ event 0 1 ∷ event 0 2 ∷ clock 12 ∷ []) 4 isOpen
+    ∷ row onlyT (event 0 0 ∷ event 0 1 ∷ event 0 2 ∷ clock 13 ∷ []) 4 (brokenNow 4)
+    ∷ row onlyT (event 0 0 ∷ event 0 5 ∷ event 1 15 ∷ clock 99 ∷ []) 4 allWhole
+    ∷ row onlyT (event 0 0 ∷ event 0 5 ∷ event 1 15 ∷ clock 99 ∷ event 1 99 ∷ []) 5 (brokenNow 5)
+    ∷ row onlyT (event 0 0 ∷ event 0 0 ∷ event 0 0 ∷ event 0 0 ∷ []) 4 (brokenNow 4)
+    ∷ row onlyR (event 1 0 ∷ event 0 0 ∷ event 2 0 ∷ []) 3 allWhole
+    ∷ row onlyR (event 0 0 ∷ event 1 0 ∷ event 0 0 ∷ []) 3 (brokenNow 3)
+    ∷ row onlyN (event 0 0 ∷ event 2 0 ∷ event 2 0 ∷ event 1 0 ∷ []) 4 allWhole
     ∷ []
 
 -- the others, and the printed case
 abbrev pub unmarked : List Row
 unmarked =
-    row T (event 0 0 ∷ event 1 0 ∷ []) 2 (brokenNow 2)
-    ∷ refusedRow T (event 0 7 ∷ event 1 6 ∷ []) 11 1 isOpen
-    ∷ row N (event 2 0 ∷ []) 1 (brokenNow 1)
-    ∷ row R (event 1 5 ∷ event 0 5 ∷ event 2 9 ∷ event 2 10 ∷ []) 4 (brokenNow 4)
+    row onlyT (event 0 0 ∷ event 1 0 ∷ []) 2 (brokenNow 2)
+    ∷ refusedRow onlyT (event 0 7 ∷ event 1 6 ∷ []) 11 1 isOpen
+    ∷ row onlyN (event 2 0 ∷ []) 1 (brokenNow 1)
+    ∷ row onlyR (event 1 5 ∷ event 0 5 ∷ event 2 9 ∷ event 2 10 ∷ []) 4 (brokenNow 4)
     ∷ []
 
 -- "Misreadings to shut out", each by a trace at which it would answer otherwise
 abbrev pub misreadings : List Row
 misreadings =
     -- P's end taken when u is reached: then 1@15 would be late
-    row T (event 0 0 ∷ event 0 1 ∷ event 0 5 ∷ event 1 15 ∷ []) 4 allWhole
+    row onlyT (event 0 0 ∷ event 0 1 ∷ event 0 5 ∷ event 1 15 ∷ []) 4 allWhole
     -- a block reopened after a sibling, in a second round
-    ∷ row R (event 1 0 ∷ event 0 0 ∷ event 2 0 ∷ event 0 0 ∷ event 1 0 ∷ event 0 0 ∷ []) 6 (brokenNow 6)
+    ∷ row onlyR (event 1 0 ∷ event 0 0 ∷ event 2 0 ∷ event 0 0 ∷ event 1 0 ∷ event 0 0 ∷ []) 6 (brokenNow 6)
     -- a deadline that fires only on the rule's own events: an event on another name is past it
-    ∷ row T (event 0 0 ∷ event 0 1 ∷ event 0 2 ∷ event 7 13 ∷ []) 4 (brokenNow 4)
+    ∷ row onlyT (event 0 0 ∷ event 0 1 ∷ event 0 2 ∷ event 7 13 ∷ []) 4 (brokenNow 4)
     -- t itself counted as late, by the clock
-    ∷ row T (event 0 0 ∷ event 0 1 ∷ event 0 2 ∷ clock 12 ∷ event 1 12 ∷ []) 5 allWhole
+    ∷ row onlyT (event 0 0 ∷ event 0 1 ∷ event 0 2 ∷ clock 12 ∷ event 1 12 ∷ []) 5 allWhole
     -- a finished Q called late by the clock alone: the next P may start at any time
-    ∷ row T (event 0 0 ∷ event 0 5 ∷ event 1 15 ∷ clock 99 ∷ event 0 200 ∷ []) 5 isOpen
+    ∷ row onlyT (event 0 0 ∷ event 0 5 ∷ event 1 15 ∷ clock 99 ∷ event 0 200 ∷ []) 5 isOpen
     ∷ []
 
 -- refusals, and observations after a break: "A stopped book gives that same answer to every later observation, unchecked"
 abbrev pub refusals : List Row
 refusals =
-    refusedRow T (event 0 7 ∷ event 64 6 ∷ []) 12 1 isOpen
-    ∷ row T (event 0 7 ∷ event 64 9 ∷ clock 3 ∷ event 0 7 ∷ []) 2 isOpen
-    ∷ row T (event 0 7 ∷ event 1 8 ∷ event 64 0 ∷ clock 0 ∷ []) 2 (brokenNow 2)
+    refusedRow onlyT (event 0 7 ∷ event 64 6 ∷ []) 12 1 isOpen
+    ∷ row onlyT (event 0 7 ∷ event 64 9 ∷ clock 3 ∷ event 0 7 ∷ []) 2 isOpen
+    ∷ row onlyT (event 0 7 ∷ event 1 8 ∷ event 64 0 ∷ clock 0 ∷ []) 2 (brokenNow 2)
+    ∷ []
+
+-- two rules on the same names, R being rule 0 and T rule 1: which bits are set, and that a broken mask has the rules broken at k only
+abbrev pub masks : List Row
+masks =
+    row (R ∷ T ∷ []) (event 0 0 ∷ []) 1 (someOpen 3)
+    ∷ row (R ∷ T ∷ []) (event 0 0 ∷ event 1 0 ∷ []) 2 (brokenAt 2 2)
+    ∷ row (R ∷ T ∷ []) (event 0 0 ∷ event 0 0 ∷ []) 2 (brokenAt 2 1)
+    ∷ row (R ∷ T ∷ []) (event 1 0 ∷ []) 1 (brokenAt 1 2)
+    ∷ row (T ∷ R ∷ N ∷ []) (event 2 0 ∷ []) 1 (brokenAt 1 6)
+    ∷ row (N ∷ R ∷ []) (event 1 0 ∷ event 0 0 ∷ event 2 0 ∷ event 2 0 ∷ []) 4 (brokenAt 4 2)
+    ∷ row (T ∷ N ∷ []) (event 0 0 ∷ event 2 1 ∷ []) 2 (someOpen 1)
     ∷ []

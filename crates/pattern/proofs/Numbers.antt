@@ -1,0 +1,43 @@
+-- Document 01's numbers, there and back: a state, a class and a join stay the same, and a number past the last that is in use becomes the last. Assumes nothing.
+use mathlib.Core.Path.{_≡_, refl}
+use Prim.Native.Nat.{ℕ, zero, suc, min}
+use native.Mathlib.Omega.{arith}
+use Rattle.pattern.specs.Meaning.{Join, all, any}
+use Rattle.pattern.specs.Recogniser.{State, idle, unbegun, waiting, counting, done, error, Class, own, sibling, next, other}
+use Rattle.pattern.specs.Numbers.{stateNumber, stateOf, classNumber, classOf, joinNumber, joinOf}
+
+pub state-back : (s : State) → stateOf (stateNumber s) ≡ s
+state-back idle = refl
+state-back unbegun = refl
+state-back waiting = refl
+state-back counting = refl
+state-back done = refl
+state-back error = refl
+
+pub class-back : (c : Class) → classOf (classNumber c) ≡ c
+class-back own = refl
+class-back sibling = refl
+class-back next = refl
+class-back other = refl
+
+pub join-back : (j : Join) → joinOf (joinNumber j) ≡ j
+join-back all = refl
+join-back any = refl
+
+pub state-number : (n : ℕ) → stateNumber (stateOf n) ≡ min n 5
+state-number zero = refl
+state-number (suc zero) = refl
+state-number (suc (suc zero)) = refl
+state-number (suc (suc (suc zero))) = refl
+state-number (suc (suc (suc (suc zero)))) = refl
+state-number (suc (suc (suc (suc (suc n))))) = omega arith
+
+pub class-number : (n : ℕ) → classNumber (classOf n) ≡ min n 3
+class-number zero = refl
+class-number (suc zero) = refl
+class-number (suc (suc zero)) = refl
+class-number (suc (suc (suc n))) = omega arith
+
+pub join-any : (n : ℕ) → (n ≡ 0 → ⊥) → joinOf n ≡ any
+join-any zero h = absurd (h refl)
+join-any (suc n) h = refl
