@@ -79,7 +79,7 @@ one-oracle rules a b p q os n = each-one rules os (a os) (b os) (p os n) (q os n
 
 -- an observation that is not refused is not before the latest
 pub not-before : (late count : ℕ) (o : Observation) → refusal late count o ≡ none → late ≤ timeOf o
-not-before late count o e = look (badName o) (ltb (timeOf o) late) refl (cond (leb 4294967295 count) (some 13) none) e
+not-before late count o e = look (badName o) (ltb (timeOf o) late) refl _ e
   where
     look : (a b : Bool) → ltb (timeOf o) late ≡ b → (n : Option ℕ) → cond a (some 12) (cond b (some 11) n) ≡ none → late ≤ timeOf o
     look true b q n z = let x : _≡_ {A = ℕ} 0 1 = cc in absurd (zero-one x)
