@@ -165,7 +165,7 @@ module _ (r : Rule) (st : RuleState) (f : Checked) (q : fragmentAt r (st .fragme
       let p : passes r st e ≡ false = rw (is-true (has r (st .fragment) (e .name)) h) in
       let s : step r st e ≡ stay r st e = rw (is-false (released r st) n, p) in
       let ss : moved r st e ≡ X .step f (held st) (e .name) .states = inside-moved h l in
-      let cs : counts (e .name) (st .count) (slotsOf r st) ≡ X .step f (held st) (e .name) .count = ap (λ (x : Fragment). counts (e .name) (st .count) (slots (x .ranges) (st .states))) q in
+      let cs : stay r st e .count ≡ X .step f (held st) (e .name) .count = rw (is-false (late r st e) l) (ap (λ (x : Fragment). counts (e .name) (st .count) (slots (x .ranges) (st .states))) q) in
       s ∙ (λ i. record { fragment = st .fragment; states = ss i; count = cs i; end = endAfter r (st .fragment) (st .end) (e .time) })
 
   pub inside-errs : T (has r (st .fragment) (e .name)) → T (not (late r st e)) → T (not (X .good f (X .step f (held st) (e .name)))) → Erred r (step r st e)

@@ -204,7 +204,8 @@ module _ (c : CheckedRule) where
         let p : passes (ruleOf c) (M.fresh (ruleOf c)) e ≡ false = rw here in
         let s : step (ruleOf c) (M.fresh (ruleOf c)) e ≡ stay (ruleOf c) (M.fresh (ruleOf c)) e = rw (fresh-not, p) in
         let ss : moved (ruleOf c) (M.fresh (ruleOf c)) e ≡ begun .states = moves-same (c .p .fragment .join) (classOf (ruleOf c) (M.fresh (ruleOf c)) e) (within (e .name)) 0 (c .p .fragment .ranges) (notBegun (c .p .fragment .ranges) 8) (λ x. rw (on-time, here)) in
-        subst (λ (x : RuleState). Stands x (at (planOf c .first) begun (planOf c .others) (e .time))) (sym s) (refl, (λ i. record { states = ss i; count = begun .count }), rw after-zero)
+        let cs : stay (ruleOf c) (M.fresh (ruleOf c)) e .count ≡ begun .count = rw on-time in
+        subst (λ (x : RuleState). Stands x (at (planOf c .first) begun (planOf c .others) (e .time))) (sym s) (refl, (λ i. record { states = ss i; count = cs i }), rw after-zero)
 
     fresh-fails : T (not (X .has (c .p) (e .name))) → Erred (ruleOf c) (step (ruleOf c) (M.fresh (ruleOf c)) e)
     fresh-fails h =

@@ -120,7 +120,7 @@ module _ (r : Rule) where
   stay st e = record {
     fragment = st .fragment;
     states = moved st e;
-    count = counts (e .name) (st .count) (slotsOf st);
+    count = cond (late st e) (st .count) (counts (e .name) (st .count) (slotsOf st));
     end = endAfter (st .fragment) (st .end) (e .time);
   }
 
