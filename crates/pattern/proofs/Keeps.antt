@@ -98,7 +98,7 @@ module _ (j : Join) (c : ℕ) (rs : List Range) (ss : List State) (cl : Range �
   of-moved : (y : Slot) → In y moved-slots → (x : Slot) × In x (slots rs ss) × (y ≡ after x)
   of-moved y i = of-map after (slots rs ss) y (rw (slots-moves j cl c rs ss) at i)
 
-  all-begun : T (anyOf (λ (x : Slot). isUnbegun (x .state)) moved-slots) → ⊥
+  pub all-begun : T (anyOf (λ (x : Slot). isUnbegun (x .state)) moved-slots) → ⊥
   all-begun t =
       let (y, i, u) = any→ (λ (x : Slot). isUnbegun (x .state)) moved-slots t in
       let (x, k, e) = of-moved y i in
