@@ -106,10 +106,14 @@ module _ (rules : List Rule) (a b : Oracle) (p : Right rules a) (q : Right rules
   same-turn k o f allWhole = same-unless k o f (refusal (latest (k .taken)) (length (k .taken)) o) refl
   same-turn k o f (someOpen m) = same-unless k o f (refusal (latest (k .taken)) (length (k .taken)) o) refl
 
+  -- one turn of any judge is a turn of any other, and its list never falls
+  pub one-turn : (k : Kept) (o : Observation) → NeverFalls 0 (k .taken) → Same (judge a k o) (judge b k o)
+  one-turn k o f = same-turn k o f (k .verdict)
+
   same-answers : (os : List Observation) (k : Kept) → NeverFalls 0 (k .taken) → (judgeAnswers a k os ≡ judgeAnswers b k os) × (judgeKeeps a k os ≡ judgeKeeps b k os)
   same-answers [] k f = (refl, refl)
   same-answers (o ∷ os) k f =
-      let s = same-turn k o f (k .verdict) in
+      let s = one-turn k o f in
       let r = same-answers os (judge a k o .kept) (s .falls) in
       let z : judge a k o ≡ judge b k o = s .is in (
         ap₂ (λ x l. x ∷ l) (ap (λ (t : Turn). t .answer) z) (r .0 ∙ ap (λ (t : Turn). judgeAnswers b (t .kept) os) z),

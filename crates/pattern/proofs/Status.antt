@@ -28,7 +28,7 @@ module _ (c : CheckedRule) where
   at-rest-whole st now t = rw (is-true (atRest (ruleOf c) st) t)
 
   -- a fresh rule is at rest
-  fresh-rests : T (atRest (ruleOf c) (M.fresh (ruleOf c)))
+  pub fresh-rests : T (atRest (ruleOf c) (M.fresh (ruleOf c)))
   fresh-rests =
       let (x, i) = some-range (c .p .fragment .ranges) (c .p .count .0) in
       let rs : List Range = c .p .fragment .ranges in

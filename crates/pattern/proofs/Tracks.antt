@@ -8,7 +8,7 @@ use lib.Dec.{T}
 use lib.ListN.{length}
 use Rattle.pattern.specs.Lists.{In, Distinct, Each, isIn}
 use Rattle.pattern.specs.Meaning.{Event, Range, Fragment, fragmentNames, orderingNames, kindNames, Kind, once, repeated, timed, Rule, namesOf, lastTime, Rising, Judged, WellFormedRange, WellFormedFragment, WellFormedOrdering, WellFormedKind, WellFormed}
-use Rattle.pattern.specs.Model.{RuleState, fresh, step, statusAt}
+use Rattle.pattern.specs.Model.{RuleState, fresh, step, statusAt, atRest}
 use Rattle.pattern.proofs.Basics.{each-in, distinct-left, distinct-right}
 use Rattle.pattern.proofs.Rounds as R
 use Rattle.pattern.proofs.Fragment.{X, laws, Checked}
@@ -16,7 +16,7 @@ use Rattle.pattern.proofs.Orderings.{fragments}
 use Rattle.pattern.proofs.Rules.{CheckedRule, CheckedKind, once′, repeated′, timed′, ruleOf, kindOf, endingOf, planOf, chained}
 use Rattle.pattern.proofs.Standing.{placeAfter, statusOf, judged}
 use Rattle.pattern.proofs.Places.{Stands, keeps}
-use Rattle.pattern.proofs.Status.{status-is}
+use Rattle.pattern.proofs.Status.{fresh-rests, status-is}
 
 -- ---- a well-formed rule's fragments are checked
 
@@ -75,6 +75,10 @@ pub record Tracks (r : Rule) (trace : List Event) (st : RuleState) : Type 0 wher
 
 pub tracks-fresh : (r : Rule) → WellFormed r → Tracks r [] (fresh r)
 tracks-fresh r w = let c = checked (r .kind) (r .p) w in record { checked = c; distinct = w .distinct; stands = ap fresh (sym (c .is)) }
+
+-- a fresh rule is at rest
+pub fresh-at-rest : (r : Rule) → WellFormed r → T (atRest r (fresh r))
+fresh-at-rest r w = let c = checked (r .kind) (r .p) w in subst (λ (x : Rule). T (atRest x (fresh x))) (c .is) (fresh-rests (c .rule))
 
 run-snoc : (c : CheckedRule) (p : R.Place X) (a : List Event) (e : Event) → R.run X laws (planOf c) (endingOf (c .kind)) p (a ++ (e ∷ [])) ≡ R.go X laws (planOf c) (endingOf (c .kind)) (R.run X laws (planOf c) (endingOf (c .kind)) p a) e
 run-snoc c p [] e = refl
