@@ -16,11 +16,11 @@ use Rattle.names.specs.Names.{member}
 
 -- ---- the lowest digit, and the next
 
-lowest : (s : ℕ) → member s 0 ≡ eqb (s % 2) 1
+pub lowest : (s : ℕ) → member s 0 ≡ eqb (s % 2) 1
 unfolding member
 lowest s = ap (λ (m : ℕ). eqb (m % 2) 1) (div-one s)
 
-next : (s k : ℕ) → member s (suc k) ≡ member (s / 2) k
+pub next : (s k : ℕ) → member s (suc k) ≡ member (s / 2) k
 unfolding member
 next s k = ap (λ (m : ℕ). eqb (m % 2) 1) (ap (λ (j : ℕ). s / 2 ^ j) (sym (one-add k)) ∙ sym (shr-shr s 1 k))
 
