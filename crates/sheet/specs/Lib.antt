@@ -1,0 +1,7 @@
+pub mod Layout
+pub mod Form
+pub mod Reading
+pub mod Examples
+pub mod Pages
+pub mod Told
+pub mod Answers

@@ -1,0 +1,323 @@
+#!/usr/bin/env python3
+"""Example sheets, and what is due for each: written from document 01 ("The sheet", "Where each refusal is found") and from nothing else of this repository.
+
+  python3 tests/sheets/make.py          write crates/sheets/stdin (the sheets) and crates/sheets/stdout (a line for each: answer, number, place)
+  python3 tests/sheets/make.py --check  say whether those two files are what would be written, and print how many sheets meet each refusal
+
+The answer is 0 for an accepted sheet and 3 for a refused one. In stdin a sheet is a byte (0: the sheet alone; 1: every prefix of it, the empty one first),
+its length (u16, little-endian) and its bytes.
+"""
+import os
+import random
+import struct
+import sys
+
+HERE = os.path.dirname(os.path.abspath(__file__))
+CRATE = os.path.join(HERE, "..", "..", "crates", "sheets")
+
+# ---------------------------------------------------------------- what is due
+
+
+class Refusal(Exception):
+    def __init__(self, number, place):
+        self.number, self.place = number, place
+
+
+class Bytes:
+    """The bytes, and the offset of the field that is due next."""
+
+    def __init__(self, data):
+        self.data, self.at = data, 0
+
+    def field(self, size):
+        """The field's bytes and its offset; 1 where it doesn't fit in the bytes left."""
+        place = self.at
+        if len(self.data) - place < size:
+            raise Refusal(1, place)
+        self.at += size
+        return self.data[place:place + size], place
+
+    def number(self, size):
+        raw, place = self.field(size)
+        return int.from_bytes(raw, "little"), place
+
+
+def need(right, number, place):
+    if not right:
+        raise Refusal(number, place)
+
+
+def read_fragment(b, used, outputs, of_q):
+    join, place = b.number(1)
+    need(join in (0, 1), 4, place)
+    count, place = b.number(1)
+    need(1 <= count <= 8, 4, place)
+    for _ in range(count):
+        name, place = b.number(1)
+        need(name <= 63, 6, place)
+        need(name not in used, 8, place)
+        need(not of_q or outputs >> name & 1, 9, place)
+        used.add(name)
+        u, place = b.number(2)
+        need(u != 0, 7, place)
+        v, place = b.number(2)
+        need(v >= u, 7, place)
+
+
+def read_rule(b, outputs):
+    kind, place = b.number(1)
+    need(kind in (0, 1, 2), 4, place)
+    in_p, place = b.number(1)
+    need(1 <= in_p <= 8, 4, place)
+    in_q, place = b.number(1)
+    if kind == 2:
+        need(1 <= in_q <= 8, 4, place)
+    else:
+        need(in_q == 0, 5, place)
+    used = set()
+    trigger, place = b.number(1)
+    if kind == 2:
+        need(trigger == 0, 5, place)
+    else:
+        need(trigger <= 63, 6, place)
+        need(not outputs >> trigger & 1, 9, place)
+        used.add(trigger)
+    t, place = b.number(4)
+    if kind != 2:
+        need(t == 0, 5, place)
+    for _ in range(in_p):
+        read_fragment(b, used, outputs, False)
+    for _ in range(in_q):
+        read_fragment(b, used, outputs, True)
+
+
+def due(data):
+    """(answer, number, place) of some bytes."""
+    b = Bytes(data)
+    try:
+        mark, place = b.field(3)
+        need(mark == bytes.fromhex("4C4F42"), 2, place)
+        version, place = b.number(2)
+        need(version == 1, 3, place)
+        outputs, place = b.number(8)
+        count, place = b.number(1)
+        need(1 <= count <= 16, 4, place)
+        for _ in range(count):
+            read_rule(b, outputs)
+        if b.at < len(data):
+            raise Refusal(10, b.at)
+    except Refusal as r:
+        return 3, r.number, r.place
+    return 0, 0, 0
+
+
+# ---------------------------------------------------------------- building sheets
+
+
+def a_range(name, u=1, v=1):
+    return struct.pack("<BHH", name, u, v)
+
+
+def fragment(ranges, join=0, count=None):
+    return bytes([join, len(ranges) if count is None else count]) + b"".join(ranges)
+
+
+def rule(kind, p, q=(), trigger=0, t=0, in_p=None, in_q=None):
+    head = struct.pack("<BBBBI", kind, len(p) if in_p is None else in_p, len(q) if in_q is None else in_q, trigger, t)
+    return head + b"".join(p) + b"".join(q)
+
+
+def sheet(rules, outputs=0, mark=b"LOB", version=1, count=None):
+    return mark + struct.pack("<HQB", version, outputs, len(rules) if count is None else count) + b"".join(rules)
+
+
+def names(first, sizes):
+    """Fragments of so many ranges, named from first on."""
+    made = []
+    for size in sizes:
+        made.append(fragment([a_range(n, 1 + n % 3, 65535 - n) for n in range(first, first + size)], join=len(made) % 2))
+        first += size
+    return made
+
+
+def full(p_sizes, q_sizes):
+    """Sixteen timed rules, of 64 names and 16 fragments each: 5,774 bytes."""
+    split = sum(p_sizes)
+    outputs = sum(1 << n for n in range(split, 64))
+    return sheet([rule(2, names(0, p_sizes), names(split, q_sizes), t=4294967295 - k) for k in range(16)], outputs)
+
+
+PRINTED = bytes.fromhex("4C4F42 0100 0000000000000000 01 01 01 00 02 00000000 00 02 00 0100 0100 01 0100 0100".replace(" ", ""))
+FULL = full([4] * 8, [4] * 8)
+
+
+def examples():
+    """(every prefix?, bytes), with the printed case first."""
+    yield 0, PRINTED
+    # one sheet with each kind of rule, whose prefixes meet 1 at each kind of field
+    pair = fragment([a_range(0), a_range(1, 2, 3)])
+    one = fragment([a_range(5, 7, 7)], join=1)
+    answer = fragment([a_range(40), a_range(63, 1, 65535)], join=1)
+    outputs = 1 << 40 | 1 << 63
+    mixed = sheet([rule(0, [pair], trigger=2), rule(1, [pair, one], trigger=9), rule(2, [one, pair], [answer], t=10)], outputs)
+    yield 1, mixed
+    yield 1, FULL
+    # 5,774 bytes in other divisions; one byte more, one field wrong
+    assert len(FULL) == 5774
+    for other in (full([8, 8, 8, 8, 1, 1, 1, 1], [8, 8, 2, 2, 2, 2, 2, 2]), full([1] * 8, [7] * 8)):
+        assert len(other) == 5774, len(other)
+        yield 0, other
+    yield 0, FULL + b"\0"
+    yield 0, FULL[:-2] + b"\0\0"
+    # 2 and 3
+    for mark in (b"LOA", b"BOL", b"lOB", b"\0\0\0"):
+        yield 0, sheet([rule(1, [pair], trigger=2)], mark=mark)
+    yield 0, b"LOA"
+    yield 0, b"XX"
+    for version in (0, 2, 256, 65535):
+        yield 0, sheet([rule(1, [pair], trigger=2)], version=version)
+    # 4: count, kind, join
+    good = rule(1, [pair], trigger=2)
+    for count in (0, 2, 17, 255):
+        yield 0, sheet([good], count=count)
+    yield 0, sheet([good] * 16)
+    yield 0, sheet([good] * 17)
+    for kind in (3, 255):
+        yield 0, sheet([rule(kind, [pair], trigger=2)])
+    for in_p in (0, 9, 255):
+        for kind in (0, 1, 2):
+            yield 0, sheet([rule(kind, [pair], in_p=in_p)])
+    for in_q in (0, 9, 255):
+        yield 0, sheet([rule(2, [pair], [answer], in_q=in_q)], outputs)
+    for join in (2, 255):
+        yield 0, sheet([rule(1, [fragment([a_range(0)], join=join)], trigger=2)])
+        yield 0, sheet([rule(2, [pair], [fragment([a_range(40)], join=join)])], outputs)
+    for count in (0, 9, 255):
+        yield 0, sheet([rule(1, [fragment([a_range(0)], count=count)], trigger=2)])
+        yield 0, sheet([rule(2, [pair], [fragment([a_range(40)], count=count)])], outputs)
+    # 5: Q count, trigger, t
+    for in_q in (1, 8, 9, 255):
+        for kind in (0, 1):
+            yield 0, sheet([rule(kind, [pair], trigger=2, in_q=in_q)])
+    for trigger in (1, 63, 64, 70, 255):
+        yield 0, sheet([rule(2, [one], [answer], trigger=trigger)], outputs)
+    yield 0, sheet([rule(2, [one], [fragment([a_range(0)])])], 1)
+    yield 0, sheet([rule(2, [fragment([a_range(0)])], [answer])], outputs | 1)
+    for t in (1, 256, 65536, 1 << 24, 4294967295):
+        for kind in (0, 1):
+            yield 0, sheet([rule(kind, [fragment([a_range(0)], join=2)], trigger=2, t=t)])
+        yield 0, sheet([rule(2, [pair], [answer], t=t)], outputs)
+    # 6: trigger, range name
+    for name in (64, 70, 128, 255):
+        for kind in (0, 1):
+            yield 0, sheet([rule(kind, [pair], trigger=name)])
+        yield 0, sheet([rule(1, [fragment([a_range(name)])], trigger=2)])
+        yield 0, sheet([rule(1, [pair, fragment([a_range(5), a_range(name)])], trigger=2)])
+        yield 0, sheet([rule(2, [pair], [fragment([a_range(name)])])], outputs)
+    # 7: u is 0; v < u
+    for u, v in ((0, 0), (0, 1), (1, 0), (2, 1), (65535, 65534), (65535, 65535), (256, 1), (1, 256)):
+        yield 0, sheet([rule(0, [fragment([a_range(0, u, v)])], trigger=2)])
+        yield 0, sheet([rule(2, [pair], [fragment([a_range(40), a_range(63, u, v)])])], outputs)
+    # 8: in one fragment, in two, in P and Q, trigger and range
+    yield 0, sheet([rule(1, [fragment([a_range(0), a_range(0)])], trigger=2)])
+    yield 0, sheet([rule(1, [fragment([a_range(0)]), fragment([a_range(1), a_range(0)])], trigger=2)])
+    yield 0, sheet([rule(2, [fragment([a_range(40)])], [answer])], outputs)
+    for kind in (0, 1):
+        yield 0, sheet([rule(kind, [fragment([a_range(0), a_range(2)])], trigger=2)])
+    yield 0, sheet([rule(1, [pair], trigger=2), rule(1, [pair], trigger=2)])
+    # 9: a trigger that is an output; a Q name that is an input
+    for name in (0, 31, 63):
+        for kind in (0, 1):
+            yield 0, sheet([rule(kind, [fragment([a_range(7)])], trigger=name)], 1 << name)
+        yield 0, sheet([rule(2, [fragment([a_range(7)])], [fragment([a_range(name)])])], (1 << 64) - 1 - (1 << name))
+    # at one field 8 comes before 9, and 6 before both
+    yield 0, sheet([rule(2, [fragment([a_range(5)])], [fragment([a_range(5)])])])
+    yield 0, sheet([rule(2, [fragment([a_range(5)])], [fragment([a_range(64)])])])
+    # the first faulty field decides
+    yield 0, sheet([rule(1, [fragment([a_range(0, 0, 0)])], trigger=70)], 1)
+    yield 0, sheet([rule(2, [fragment([a_range(0, 0, 5)], join=7)], [answer])], outputs)
+    # 10
+    for more in (b"\0", b"LOB", b"\0" * 100):
+        yield 0, PRINTED + more
+    # random sheets, and one byte of them changed
+    rng = random.Random(2016)
+    for _ in range(120):
+        data = random_sheet(rng)
+        yield 0, data
+        for _ in range(2):
+            at = rng.randrange(len(data))
+            yield 0, data[:at] + bytes([rng.choice([0, 1, 2, 8, 9, 63, 64, 255, data[at] ^ 1, rng.randrange(256)])]) + data[at + 1:]
+
+
+def random_sheet(rng):
+    """A sheet that is right, or wrong only in a name that comes twice or goes the wrong way."""
+    outputs = rng.getrandbits(64)
+    rules = []
+    for _ in range(rng.choice([1, 1, 2, 3])):
+        kind = rng.randrange(3)
+        pool = list(range(64))
+        rng.shuffle(pool)
+        if kind == 2 and rng.random() < 0.8:
+            q_pool = [n for n in pool if outputs >> n & 1]
+        else:
+            q_pool = pool
+
+        def some(source, most):
+            made = []
+            for _ in range(rng.randint(1, most)):
+                made.append(fragment([random_range(rng, source, pool) for _ in range(rng.randint(1, 3))], join=rng.randrange(2)))
+            return made
+
+        trigger = 0
+        if kind != 2:
+            inputs = [n for n in pool if not outputs >> n & 1]
+            trigger = inputs[0] if inputs else 0
+            if trigger in pool and rng.random() < 0.9:
+                pool.remove(trigger)
+        p = some(pool, 3)
+        q = some([n for n in q_pool if n in pool] or q_pool or [0], 2) if kind == 2 else []
+        rules.append(rule(kind, p, q, trigger, rng.choice([0, 5, 4294967295]) if kind == 2 else 0))
+    return sheet(rules, outputs)
+
+
+def random_range(rng, source, pool):
+    name = source[0] if source else 0
+    for names_left in (source, pool):
+        if name in names_left and rng.random() < 0.97:
+            names_left.remove(name)
+    u = rng.choice([1, 1, 2, 300])
+    return a_range(name, u, u + rng.choice([0, 1, 1000]))
+
+
+# ---------------------------------------------------------------- the files
+
+
+def made():
+    sheets, lines, met = b"", [], {}
+    for prefixes, data in examples():
+        sheets += struct.pack("<BH", prefixes, len(data)) + data
+        for end in range(len(data) + 1) if prefixes else [len(data)]:
+            answer = due(data[:end])
+            met[answer[1]] = met.get(answer[1], 0) + 1
+            lines.append("%d %d %d\n" % answer)
+    assert due(PRINTED) == (0, 0, 0) and due(FULL) == (0, 0, 0)
+    assert len(sheets) <= 65536, len(sheets)
+    return sheets, "".join(lines).encode(), met
+
+
+def main():
+    sheets, lines, met = made()
+    files = (("stdin", sheets), ("stdout", lines))
+    if sys.argv[1:] == ["--check"]:
+        for name, data in files:
+            with open(os.path.join(CRATE, name), "rb") as f:
+                if f.read() != data:
+                    sys.exit(name + " is not what is due")
+        print(", ".join("%s: %d" % ("accepted" if k == 0 else k, met[k]) for k in sorted(met)))
+        return
+    for name, data in files:
+        with open(os.path.join(CRATE, name), "wb") as f:
+            f.write(data)
+
+
+main()
