@@ -1,0 +1,137 @@
+-- The book of a well-formed sheet, looked up: every entry is the part of the sheet that it stands for. This is what callers use of `bookOf`.
+-- Assumes nothing.
+use mathlib.Core.Path.{_≡_, refl, ap, sym, subst, _∙_}
+use mathlib.Core.Bool.{Bool, true, false, _&&_}
+use mathlib.Core.List.{List, [], _∷_, map}
+use Prim.Native.Nat.{ℕ, _+_, _*_, _≤_, _<_}
+use native.Mathlib.Omega.{arith}
+use lib.Dec.{ltb}
+use lib.ListN.{length, getD, take, replicate, length-replicate, length-map, List·getD-map}
+use lib.Seq.{take-all}
+use borrow.Author.Tests.{ltb-true, le-ltb}
+use Rattle.pattern.specs.Lists.{isIn, Distinct}
+use Rattle.pattern.specs.Meaning.{Range, Fragment, fragmentNames, orderingNames, Rule, namesOf, WellFormedRange, WellFormedFragment, WellFormed}
+use Rattle.pattern.specs.Model.{roundOf, fragmentAt, noFragment}
+use Rattle.names.specs.Names.{member}
+use Rattle.sheet.specs.Layout.{Sheet, headerOf, WellFormedRule, WellFormedSheet}
+use Rattle.sheet.specs.Pages.{headerWord, fragmentWord, rangeWord, headTable, fragmentTable, rangeTable, noRange, noRule, ruleAt, rangeAt}
+use Rattle.sheet.proofs.PageLaws.{head-at, fragment-at, range-at, round-formed, round-few, each-at}
+use Rattle.book.specs.Words.{cap, nameIn, countIn, roundIn}
+use Rattle.book.specs.Tables.{fragmentSet, nameTable, ruleSet, ruleTable, maskOf, holderTable, slotTable, namesFrom, unionFrom}
+use Rattle.book.specs.Books.{bookOf}
+use Rattle.book.specs.Looks.{LooksHead, LooksFragment, LooksRange, Looks}
+use Rattle.book.proofs.WordLaws.{looks-head, join-in, count-in, name-in, low-in, high-in}
+use Rattle.book.proofs.SetLaws.{stored-at, round-names, member-names, member-union, member-mask}
+use Rattle.book.proofs.SlotLaws.{slot-at}
+
+module _ (S : Sheet) (formed : WellFormedSheet S) where
+  module _ (r : ℕ) (here : r < length (S .rules)) where
+    rule-formed : WellFormed (ruleAt (S .rules) r)
+    rule-formed = each-at (WellFormedRule (S .outputs)) noRule (S .rules) r (formed .rules) here .formed
+
+    few : r < 16
+    few = omega (arith, here, formed .count)
+
+    pub head : LooksHead (getD (headTable (S .rules)) r 0) (ruleAt (S .rules) r)
+    head = rw (head-at (S .rules) r here few) (looks-head (ruleAt (S .rules) r) rule-formed)
+
+    module _ (f : ℕ) (inside : f < length (roundOf (ruleAt (S .rules) r))) where
+      fragment-formed : WellFormedFragment (fragmentAt (ruleAt (S .rules) r) f)
+      fragment-formed = each-at WellFormedFragment noFragment (roundOf (ruleAt (S .rules) r)) f (round-formed (ruleAt (S .rules) r) rule-formed) inside
+
+      fewer : f < 16
+      fewer = omega (arith, inside, round-few (ruleAt (S .rules) r) rule-formed)
+
+      word : getD (fragmentTable (S .rules)) (16 * r + f) 0 ≡ fragmentWord (fragmentAt (ruleAt (S .rules) r) f)
+      word = fragment-at (S .rules) r here few f inside fewer
+
+      count : countIn (getD (fragmentTable (S .rules)) (16 * r + f) 0) ≡ length (fragmentAt (ruleAt (S .rules) r) f .ranges)
+      count = ap countIn word ∙ count-in (fragmentAt (ruleAt (S .rules) r) f) fragment-formed
+
+      module _ (s : ℕ) (within : s < length (fragmentAt (ruleAt (S .rules) r) f .ranges)) where
+        range-formed : WellFormedRange (rangeAt (ruleAt (S .rules) r) f s)
+        range-formed = each-at WellFormedRange noRange (fragmentAt (ruleAt (S .rules) r) f .ranges) s (fragment-formed .ranges) within
+
+        pub range-word : getD (rangeTable (S .rules)) (8 * (16 * r + f) + s) 0 ≡ rangeWord (rangeAt (ruleAt (S .rules) r) f s)
+        range-word = range-at (S .rules) r here few f inside fewer s within (omega (arith, within, fragment-formed .count))
+
+        pub range : LooksRange (getD (rangeTable (S .rules)) (8 * (16 * r + f) + s) 0) (ruleAt (S .rules) r) f s
+        range = rw range-word (record {
+          name = name-in (rangeAt (ruleAt (S .rules) r) f s) range-formed;
+          u = low-in (rangeAt (ruleAt (S .rules) r) f s) range-formed;
+          v = high-in (rangeAt (ruleAt (S .rules) r) f s) range-formed;
+        })
+
+      -- the names of a fragment's ranges, by their numbers
+      names-by-number : (i : ℕ) → i < length (fragmentAt (ruleAt (S .rules) r) f .ranges)
+          → nameIn (getD (rangeTable (S .rules)) (8 * (16 * r + f) + i) 0) ≡ getD (fragmentNames (fragmentAt (ruleAt (S .rules) r) f)) i 0
+      names-by-number i l = range i l .name ∙ sym (List·getD-map (λ (x : Range). x .name) (fragmentAt (ruleAt (S .rules) r) f .ranges) i noRange)
+
+      pub fragment-names : (n : ℕ) → member (getD (nameTable (fragmentTable (S .rules)) (rangeTable (S .rules))) (16 * r + f) 0) n
+          ≡ isIn n (fragmentNames (fragmentAt (ruleAt (S .rules) r) f))
+      unfolding nameTable fragmentSet
+      fragment-names n =
+          let fs : List ℕ = fragmentTable (S .rules) in
+          let rs : List ℕ = rangeTable (S .rules) in
+          let ns : List ℕ = fragmentNames (fragmentAt (ruleAt (S .rules) r) f) in
+          let many : length ns ≡ length (fragmentAt (ruleAt (S .rules) r) f .ranges) = length-map (fragmentAt (ruleAt (S .rules) r) f .ranges) (λ (x : Range). x .name) in
+          ap (λ (w : ℕ). member w n) (stored-at (fragmentSet fs rs) 256 (replicate 256 0) (16 * r + f) (omega (arith, few, fewer)) (omega arith))
+          ∙ ap (λ (k : ℕ). member (namesFrom rs (8 * (16 * r + f)) k) n) (count ∙ sym many)
+          ∙ member-names rs (8 * (16 * r + f)) ns n (length ns) (omega arith) (λ i l. names-by-number i (subst (λ (k : ℕ). i < k) many l))
+          ∙ ap (isIn n) (take-all (length ns) ns (omega arith))
+
+      pub fragment : LooksFragment (getD (fragmentTable (S .rules)) (16 * r + f) 0) (getD (nameTable (fragmentTable (S .rules)) (rangeTable (S .rules))) (16 * r + f) 0) (ruleAt (S .rules) r) f
+      fragment = record { join = rw word (join-in (fragmentAt (ruleAt (S .rules) r) f)); count = count; names′ = fragment-names }
+
+    -- the set of a rule's names
+    rule-names : (n : ℕ) → member (getD (ruleTable (headTable (S .rules)) (nameTable (fragmentTable (S .rules)) (rangeTable (S .rules)))) r 0) n ≡ isIn n (namesOf (ruleAt (S .rules) r))
+    unfolding ruleTable ruleSet
+    rule-names n =
+        let names : List ℕ = nameTable (fragmentTable (S .rules)) (rangeTable (S .rules)) in
+        let heads : List ℕ = headTable (S .rules) in
+        let fs : List Fragment = roundOf (ruleAt (S .rules) r) in
+        ap (λ (w : ℕ). member w n) (stored-at (ruleSet heads names) 16 (replicate 16 0) r few (omega arith))
+        ∙ ap (λ (k : ℕ). member (unionFrom names (16 * r) k) n) (head .round)
+        ∙ member-union names (16 * r) fs n (length fs) (omega arith) (λ i l. fragment-names i l n)
+        ∙ ap (λ (l : List Fragment). isIn n (orderingNames l)) (take-all (length fs) fs (omega arith))
+        ∙ ap (isIn n) (round-names (ruleAt (S .rules) r))
+
+    pub slot : (f s : ℕ) → f < length (roundOf (ruleAt (S .rules) r)) → s < length (fragmentAt (ruleAt (S .rules) r) f .ranges)
+        → getD (slotTable (headTable (S .rules)) (fragmentTable (S .rules)) (rangeTable (S .rules)) (length (S .rules))) (64 * r + rangeAt (ruleAt (S .rules) r) f s .name) 0 ≡ s
+    unfolding slotTable
+    slot f s inside within =
+        let all : cap 16 (length (S .rules)) ≡ length (S .rules) = rw (le-ltb 16 (length (S .rules)) (formed .count .1)) in
+        slot-at (headTable (S .rules)) (fragmentTable (S .rules)) (rangeTable (S .rules)) (cap 16 (length (S .rules))) (replicate 1024 0) (length-replicate {A = ℕ} 1024 0)
+        r (subst (λ (n : ℕ). r < n) (sym all) here) few (roundOf (ruleAt (S .rules) r))
+        (subst Distinct (sym (round-names (ruleAt (S .rules) r))) (rule-formed .distinct)) (head .round) count (λ g i l k. range g l i k .name)
+        f s inside within (omega (arith, range-formed f inside s within .named))
+
+  pub holders : (n r : ℕ) → n < 64
+      → member (getD (holderTable (ruleTable (headTable (S .rules)) (nameTable (fragmentTable (S .rules)) (rangeTable (S .rules)))) (length (S .rules))) n 0) r
+      ≡ (ltb r (length (S .rules)) && isIn n (namesOf (ruleAt (S .rules) r)))
+  unfolding holderTable
+  holders n r l =
+      let sets : List ℕ = ruleTable (headTable (S .rules)) (nameTable (fragmentTable (S .rules)) (rangeTable (S .rules))) in
+      let all : cap 16 (length (S .rules)) ≡ length (S .rules) = rw (le-ltb 16 (length (S .rules)) (formed .count .1)) in
+      ap (λ (w : ℕ). member w r) (stored-at (λ m. maskOf sets m (cap 16 (length (S .rules)))) 64 (replicate 64 0) n l (omega arith))
+      ∙ member-mask sets n (cap 16 (length (S .rules))) r
+      ∙ ap (λ (k : ℕ). ltb r k && member (getD sets r 0) n) all
+      ∙ go (ltb r (length (S .rules))) refl
+    where
+      go : (b : Bool) → ltb r (length (S .rules)) ≡ b
+          → (b && member (getD (ruleTable (headTable (S .rules)) (nameTable (fragmentTable (S .rules)) (rangeTable (S .rules)))) r 0) n) ≡ (b && isIn n (namesOf (ruleAt (S .rules) r)))
+      go true e = rule-names r (ltb-true r (length (S .rules)) e) n
+      go false e = refl
+
+  -- the book of a well-formed sheet is the sheet, looked up
+  pub looks : Looks S (bookOf S)
+  looks = record {
+    version′ = refl;
+    outputs = refl;
+    count = refl;
+    head = head;
+    fragment = λ r f h i. fragment r h f i;
+    range = λ r f s h i w. range r h f i s w;
+    holders = holders;
+    slot = λ r f s h i w. slot r h f s i w;
+  }

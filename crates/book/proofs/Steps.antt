@@ -1,0 +1,73 @@
+-- One turn of each loop that makes a table: what is made of i of them, and one more, is what is made of i + 1.
+-- Assumes nothing.
+use mathlib.Core.Path.{_≡_, refl, ap, _∙_}
+use mathlib.Core.Bool.{Bool, true, false, cond}
+use mathlib.Core.List.{List}
+use Prim.Native.Nat.{ℕ, zero, suc, _+_, _*_, _/_, _%_, _<_, _≤_, _^_}
+use native.Mathlib.Nat.{mod-lt, zero-lt-suc}
+use native.Mathlib.Numerals.{add-one}
+use native.Mathlib.Omega.{arith}
+use lib.Bits.{bitOr}
+use lib.Dec.{ltb}
+use lib.ListN.{getD, set}
+use borrow.Author.Tests.{ltb-false}
+use Rattle.names.specs.Names.{member, insert, withName}
+use Rattle.names.proofs.Sets.{insert-below}
+use Rattle.sheet.specs.Reading.{byKind}
+use Rattle.sheet.proofs.Values.{with-name}
+use Rattle.book.specs.Words.{cap, mostRanges, nameIn, kindIn, countPIn, countQIn, roundIn, countIn}
+use Rattle.book.specs.Tables.{stored, namesFrom, unionFrom, maskOf, slotsFrom, slotsOf, slotsOfAll}
+
+pub stored-more : (f : ℕ → ℕ) (t : List ℕ) (i : ℕ) {table : List ℕ} {x : ℕ} → table ≡ stored f i t → x ≡ f i → set table i x ≡ stored f (i + 1) t
+stored-more f t i e ex = rw (add-one, e, ex)
+
+pub names-more : (ranges : List ℕ) (base i : ℕ) {names n x : ℕ} → names ≡ namesFrom ranges base i → n ≡ nameIn (getD ranges (base + i) 0) → x ≡ withName names n
+    → x ≡ namesFrom ranges base (i + 1)
+names-more ranges base i {names} {n} e en ex =
+    let small : n ≤ 63 = omega (arith, en, mod-lt (getD ranges (base + i) 0) (zero-lt-suc 63)) in
+    ex ∙ with-name names n small ∙ rw (add-one, e, en)
+
+pub union-more : (names : List ℕ) (base i : ℕ) {set : ℕ} → set ≡ unionFrom names base i → bitOr set (getD names (base + i) 0) ≡ unionFrom names base (i + 1)
+union-more names base i e = rw (add-one, e)
+
+pub mask-more : (sets : List ℕ) (m i : ℕ) {mask x : ℕ} → mask ≡ maskOf sets m i → x ≡ cond (member (getD sets i 0) m) (insert mask i) mask → x ≡ maskOf sets m (i + 1)
+mask-more sets m i e ex = rw (add-one, ← e) ex
+
+pub slots-more : (ranges : List ℕ) (base first i : ℕ) (t : List ℕ) {table : List ℕ} {n : ℕ} → table ≡ slotsFrom ranges base first i t → n ≡ nameIn (getD ranges (base + i) 0)
+    → set table (first + n) i ≡ slotsFrom ranges base first (i + 1) t
+slots-more ranges base first i t e en = rw (add-one, e, en)
+
+pub fragment-slots-more : (fragments ranges : List ℕ) (r i : ℕ) (t : List ℕ) {table table′ : List ℕ} {count : ℕ} → table ≡ slotsOf fragments ranges r i t
+    → count ≡ countIn (getD fragments (16 * r + i) 0) → table′ ≡ slotsFrom ranges (8 * (16 * r + i)) (64 * r) count table → table′ ≡ slotsOf fragments ranges r (i + 1) t
+fragment-slots-more fragments ranges r i t e ec et = et ∙ rw (add-one, e, ec)
+
+pub rule-slots-more : (heads fragments ranges : List ℕ) (i : ℕ) (t : List ℕ) {table table′ : List ℕ} {count : ℕ} → table ≡ slotsOfAll fragments ranges heads i t
+    → count ≡ roundIn (getD heads i 0) → table′ ≡ slotsOf fragments ranges i count table → table′ ≡ slotsOfAll fragments ranges heads (i + 1) t
+rule-slots-more heads fragments ranges i t e ec et = et ∙ rw (add-one, e, ec)
+
+-- ---- bounds
+
+either : (b : Bool) {k x y : ℕ} → x < k → y < k → cond b x y < k
+either true p q = p
+either false p q = q
+
+pub mask-below : (sets : List ℕ) (m n : ℕ) → n ≤ 16 → maskOf sets m n < 2 ^ 16
+mask-below sets m zero h = omega arith
+mask-below sets m (suc n) h =
+    let l : maskOf sets m n < 2 ^ 16 = mask-below sets m n (omega (arith, h)) in
+    either (member (getD sets n 0) m) (insert-below 16 (maskOf sets m n) n l (omega (arith, h))) l
+
+pub cap-small : (most n : ℕ) → cap most n ≤ most
+cap-small most n = go (ltb most n) refl
+  where
+    go : (b : Bool) → ltb most n ≡ b → cond b most n ≤ most
+    go true e = omega arith
+    go false e = ltb-false most n e
+
+pub round-small : (head : ℕ) → roundIn head ≤ 16
+unfolding roundIn
+round-small head = cap-small 16 (countPIn head + byKind (kindIn head) (countQIn head) 1)
+
+pub count-small : (word : ℕ) → countIn word ≤ 8
+unfolding countIn
+count-small word = let h : cap mostRanges (word / 256) ≤ mostRanges = cap-small mostRanges (word / 256) in omega (arith, h)

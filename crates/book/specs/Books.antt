@@ -1,0 +1,35 @@
+-- The book of a sheet, and what `translate` promises.
+-- Assumes nothing.
+use mathlib.Core.Path.{_≡_}
+use mathlib.Core.List.{List}
+use Prim.Native.Nat.{ℕ}
+use Rattle.sheet.specs.Layout.{Sheet, version}
+use Rattle.sheet.specs.Reading.{accepted, readSheet}
+use Rattle.sheet.specs.Answers.{answerOf, pagesOf}
+use Rattle.sheet.specs.declared.Pages.{Pages}
+use Rattle.book.specs.Tables.{nameTable, ruleTable, holderTable, slotTable}
+use Rattle.book.specs.declared.Book.{Book}
+use Rattle.book.specs.declared.Translation.{Translation}
+
+-- the book of some pages, with the tables made of them
+abbrev pub bookFrom : Pages → Book
+bookFrom p = record {
+  version = version;
+  outputs = p .outputs;
+  count = p .count;
+  heads = p .heads;
+  fragments = p .fragments;
+  names = nameTable (p .fragments) (p .ranges);
+  ranges = p .ranges;
+  holders = holderTable (ruleTable (p .heads) (nameTable (p .fragments) (p .ranges))) (p .count);
+  slots = slotTable (p .heads) (p .fragments) (p .ranges) (p .count);
+}
+
+-- the book of a sheet
+abbrev pub bookOf : Sheet → Book
+bookOf S = bookFrom (pagesOf S)
+
+-- what translating these bytes promises: the reader's answer, and for an accepted sheet its book. The book that comes with a refusal is the program's choice
+pub record Translates (s : List ℕ) (r : Translation) : Type 0 where
+  pub answers : r .answer ≡ answerOf (readSheet s)
+  pub keeps : (S : Sheet) → readSheet s ≡ accepted S → r .book ≡ bookOf S

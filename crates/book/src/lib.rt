@@ -1,0 +1,333 @@
+// The book of a sheet (document 01: "a translated sheet is a book"): all that the sheet says, in file order, and the tables that a monitor looks up at each event.
+ghost use mathlib.Core.Path.{_≡_};
+ghost use mathlib.Core.Bool.{cond};
+ghost use Prim.Native.Nat.{ℕ, _+_, _*_, _^_, _<_, _≤_};
+ghost use lib.Dec.{eqb};
+ghost use lib.ListN.{getD};
+ghost use Rattle.names.specs.Names.{member, insert};
+ghost use Rattle.book.specs.Words.{cap, kindIn, countPIn, countQIn, triggerIn, timeIn, roundIn, joinIn, countIn, nameIn, lowIn, highIn};
+ghost use Rattle.book.specs.Tables.{namesFrom, fragmentSet, nameTable, unionFrom, ruleSet, ruleTable, maskOf, holderTable, slotsFrom, slotsOf, slotTable};
+ghost use Rattle.book.specs.Books.{Translates, bookFrom};
+
+// ---- what a number of the tables holds: a rule's head
+
+pub fn kind(head: u64) -> u8
+    ensures { λ r. ⌜ r ≡ kindIn head ⌝ }
+{
+    (head % 256) as u8
+}
+
+pub fn fragments_in_p(head: u64) -> u8
+    ensures { λ r. ⌜ r ≡ countPIn head ⌝ }
+{
+    (head / 256 % 256) as u8
+}
+
+pub fn fragments_in_q(head: u64) -> u8
+    ensures { λ r. ⌜ r ≡ countQIn head ⌝ }
+{
+    (head / 65536 % 256) as u8
+}
+
+pub fn trigger(head: u64) -> u8
+    ensures { λ r. ⌜ r ≡ triggerIn head ⌝ }
+{
+    (head / 16777216 % 256) as u8
+}
+
+pub fn time(head: u64) -> u32
+    ensures { λ r. ⌜ r ≡ timeIn head ⌝ }
+{
+    (head / 4294967296 % 4294967296) as u32
+}
+
+// Fragments in the round.
+pub fn fragments_in_round(head: u64) -> u8
+    ensures { λ r. ⌜ r ≡ roundIn head ⌝ }
+{
+    let p = fragments_in_p(head) as u64;
+    let last = fragments_last(head) as u64;
+    if 16 < p + last {
+        return 16;
+    }
+    (p + last) as u8
+}
+
+// Fragments in the round after P: Q's, or the trigger's one.
+fn fragments_last(head: u64) -> u8
+    ensures { λ r. ⌜ r ≡ cond (eqb (kindIn head) 2) (countQIn head) 1 ⌝ }
+{
+    if kind(head) == 2 {
+        return fragments_in_q(head);
+    }
+    1
+}
+
+// A fragment's word.
+pub fn join(word: u16) -> u8
+    ensures { λ r. ⌜ r ≡ joinIn word ⌝ }
+{
+    (word % 256) as u8
+}
+
+pub fn ranges_in(word: u16) -> u8
+    ensures { λ r. ⌜ r ≡ countIn word ⌝ }
+{
+    let n = word / 256;
+    if 8 < n {
+        return 8;
+    }
+    n as u8
+}
+
+// A range's word.
+pub fn name(word: u64) -> u8
+    ensures { λ r. ⌜ r ≡ nameIn word ⌝ }
+{
+    (word % 64) as u8
+}
+
+pub fn low(word: u64) -> u16
+    ensures { λ r. ⌜ r ≡ lowIn word ⌝ }
+{
+    (word / 256 % 65536) as u16
+}
+
+pub fn high(word: u64) -> u16
+    ensures { λ r. ⌜ r ≡ highIn word ⌝ }
+{
+    (word / 16777216 % 65536) as u16
+}
+
+// ---- the names of each fragment
+
+// The set of names of fragment k.
+fn fragment_set<'a>(fragments: &'a [u16; 256], ranges: &'a [u64; 2048], k: usize) -> u64
+    requires { ⌜ k < 256 ⌝ }
+    ensures { λ r. ⌜ r ≡ fragmentSet (now (fragments .entry)) (now (ranges .entry)) k ⌝ }
+{
+    let count = ranges_in(fragments[k]) as usize;
+    let base = 8 * k;
+    let mut set = 0u64;
+    let mut i = 0usize;
+    while i < count {
+        set = names::with(set, name(ranges[base + i]));
+        i = i + 1;
+    }
+    set
+}
+
+fn name_table<'a>(fragments: &'a [u16; 256], ranges: &'a [u64; 2048]) -> [u64; 256]
+    ensures { λ r. ⌜ r ≡ nameTable (now (fragments .entry)) (now (ranges .entry)) ⌝ }
+{
+    let mut names = [0u64; 256];
+    let mut k = 0usize;
+    while k < 256 {
+        names[k] = fragment_set(fragments, ranges, k);
+        k = k + 1;
+    }
+    names
+}
+
+// ---- the rules of each name
+
+// The set of names of rule r.
+fn rule_set<'a>(heads: &'a [u64; 16], names: &'a [u64; 256], r: usize) -> u64
+    requires { ⌜ r < 16 ⌝ }
+    ensures { λ x. ⌜ x ≡ ruleSet (now (heads .entry)) (now (names .entry)) r ⌝ }
+{
+    let count = fragments_in_round(heads[r]) as usize;
+    let base = 16 * r;
+    let mut set = 0u64;
+    let mut i = 0usize;
+    while i < count {
+        set = set | names[base + i];
+        i = i + 1;
+    }
+    set
+}
+
+fn rule_table<'a>(heads: &'a [u64; 16], names: &'a [u64; 256]) -> [u64; 16]
+    ensures { λ x. ⌜ x ≡ ruleTable (now (heads .entry)) (now (names .entry)) ⌝ }
+{
+    let mut sets = [0u64; 16];
+    let mut r = 0usize;
+    while r < 16 {
+        sets[r] = rule_set(heads, names, r);
+        r = r + 1;
+    }
+    sets
+}
+
+// At most 16 rules.
+fn few(count: u8) -> usize
+    ensures { λ n. ⌜ n ≡ cap 16 count ⌝ }
+{
+    if 16 < count {
+        return 16;
+    }
+    count as usize
+}
+
+// The mask, with rule r if its set has name m.
+fn add_rule(mask: u64, set: u64, m: u8, r: usize) -> u64
+    requires { ⌜ r < 16 ⌝ }
+    ensures { λ x. ⌜ x ≡ cond (member set m) (insert mask r) mask ⌝ }
+{
+    if names::has(set, m) {
+        return names::with(mask, r as u8);
+    }
+    mask
+}
+
+// The mask of the rules that hold name m.
+fn mask_of(sets: &[u64; 16], m: u8, count: usize) -> u16
+    requires { ⌜ count ≤ 16 ⌝ }
+    ensures { λ x. ⌜ x ≡ maskOf (now (sets .entry)) m count ⌝ }
+{
+    let mut mask = 0u64;
+    let mut r = 0usize;
+    while r < count {
+        mask = add_rule(mask, sets[r], m, r);
+        r = r + 1;
+    }
+    mask as u16
+}
+
+fn holder_table(sets: &[u64; 16], count: u8) -> [u16; 64]
+    ensures { λ x. ⌜ x ≡ holderTable (now (sets .entry)) count ⌝ }
+{
+    let n = few(count);
+    let mut masks = [0u16; 64];
+    let mut m = 0usize;
+    while m < 64 {
+        masks[m] = mask_of(sets, m as u8, n);
+        m = m + 1;
+    }
+    masks
+}
+
+// ---- where each name has its range
+
+// The ranges of fragment k of the book, of a rule whose slots start at first.
+fn slots_from(ranges: &[u64; 2048], base: usize, first: usize, count: usize, slots: &mut [u8; 1024])
+    requires { ⌜ (base + count ≤ 2048) × (first ≤ 960) × (count ≤ 8) ⌝ }
+    ensures { λ _. ⌜ now (slots .exit) ≡ slotsFrom (now (ranges .entry)) base first count (now (slots .entry)) ⌝ }
+{
+    let mut i = 0usize;
+    while i < count {
+        let n = name(ranges[base + i]) as usize;
+        slots[first + n] = i as u8;
+        i = i + 1;
+    }
+}
+
+// The fragments of rule r.
+fn slots_of<'a>(
+    fragments: &'a [u16; 256],
+    ranges: &'a [u64; 2048],
+    r: usize,
+    count: usize,
+    slots: &mut [u8; 1024],
+)
+    requires { ⌜ (r < 16) × (count ≤ 16) ⌝ }
+    ensures { λ _. ⌜ now (slots .exit) ≡ slotsOf (now (fragments .entry)) (now (ranges .entry)) r count (now (slots .entry)) ⌝ }
+{
+    let mut i = 0usize;
+    while i < count {
+        let k = 16 * r + i;
+        slots_from(
+            ranges,
+            8 * k,
+            64 * r,
+            ranges_in(fragments[k]) as usize,
+            slots,
+        );
+        i = i + 1;
+    }
+}
+
+fn slot_table<'a>(
+    heads: &'a [u64; 16],
+    fragments: &'a [u16; 256],
+    ranges: &'a [u64; 2048],
+    count: u8,
+) -> [u8; 1024]
+    ensures { λ x. ⌜ x ≡ slotTable (now (heads .entry)) (now (fragments .entry)) (now (ranges .entry)) count ⌝ }
+{
+    let n = few(count);
+    let mut slots = [0u8; 1024];
+    let mut r = 0usize;
+    while r < n {
+        slots_of(
+            fragments,
+            ranges,
+            r,
+            fragments_in_round(heads[r]) as usize,
+            &mut slots,
+        );
+        r = r + 1;
+    }
+    slots
+}
+
+// ---- the book
+
+pub struct Book {
+    // the sheet's version and outputs, and the count of its rules
+    pub version: u16,
+    pub outputs: u64,
+    pub count: u8,
+    // rule r's eight bytes at r
+    pub heads: [u64; 16],
+    // fragment f of rule r's round at 16 r + f: join and count of ranges; the set of its names
+    pub fragments: [u16; 256],
+    pub names: [u64; 256],
+    // that fragment's range s at 8 (16 r + f) + s: name, u and v
+    pub ranges: [u64; 2048],
+    // at name n, the mask of the rules that hold it; at 64 r + n, which range of its fragment name n of rule r has
+    pub holders: [u16; 64],
+    pub slots: [u8; 1024],
+}
+
+pub struct Translation {
+    pub answer: sheet::Answer,
+    pub book: Book,
+}
+
+// The book of a sheet's pages.
+fn book_of(pages: sheet::Pages) -> Book
+    ensures { λ r. ⌜ r ≡ bookFrom pages ⌝ }
+{
+    let heads = pages.heads;
+    let fragments = pages.fragments;
+    let ranges = pages.ranges;
+    let names = name_table(&fragments, &ranges);
+    let sets = rule_table(&heads, &names);
+    let holders = holder_table(&sets, pages.count);
+    let slots = slot_table(&heads, &fragments, &ranges, pages.count);
+    Book {
+        version: 1,
+        outputs: pages.outputs,
+        count: pages.count,
+        heads: heads,
+        fragments: fragments,
+        names: names,
+        ranges: ranges,
+        holders: holders,
+        slots: slots,
+    }
+}
+
+// Reads a sheet from any bytes and translates it: the answer is the reader's, and the book of an accepted sheet is its own. The book that comes with a refusal is the program's choice.
+pub fn translate(s: &[u8]) -> Translation
+    ensures { λ r. ⌜ Translates (now (s .entry)) r ⌝ }
+{
+    let r = sheet::read(s);
+    let answer = r.answer;
+    let book = book_of(r.pages);
+    Translation {
+        answer: answer,
+        book: book,
+    }
+}
