@@ -1,0 +1,5 @@
+mod Loops
+mod Acts
+pub mod Slots
+pub mod Status
+pub mod Links

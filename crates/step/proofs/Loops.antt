@@ -1,0 +1,78 @@
+-- The loops over a fragment's ranges: what each has after i of them, one turn more, and the end. The laws `mapN-more` and `foldN-more` serve all.
+-- Assumes nothing.
+use mathlib.Core.Path.{_≡_, refl, ap, _∙_}
+use mathlib.Core.Bool.{Bool, true, false, _&&_, _||_}
+use mathlib.Core.List.{List, [], _∷_}
+use Prim.Native.Nat.{ℕ, zero, suc, _+_, _<_, _≤_}
+use native.Mathlib.Nat.{le-of-suc-le-suc, not-suc-le-zero}
+use native.Mathlib.Omega.{arith}
+use lib.Dec.{eqb}
+use lib.ListN.{length, getD, set}
+use Rattle.pattern.specs.Numbers.{nextState}
+use Rattle.book.specs.Words.{nameIn, lowIn, highIn}
+use Rattle.step.specs.declared.RuleState.{RuleState}
+use Rattle.step.specs.Upto.{mapN, foldN, mapN-more, foldN-more}
+use Rattle.step.specs.Steps.{Ranges, wordAt, classAt, countAt, moveOf, countOf, badOf, idleOf, turnOf, unbegunOf, freshStates, zeros}
+
+-- ---- the elements changed, and a value gathered
+
+module _ (f : ℕ → ℕ → ℕ) (l : List ℕ) (size : ℕ) where
+  pub record Mapping (x : List ℕ) (i : ℕ) : Type 0 where
+    pub within : i ≤ size
+    pub soFar : x ≡ mapN f 0 i l
+
+  pub mapping-more : {x : List ℕ} {i y : ℕ} → Mapping x i → i < size → i < length l → y ≡ f i (getD l i 0) → Mapping (set x i y) (i + 1)
+  mapping-more {x} {i} {y} m h k e = record { within = omega arith; soFar = rw (m .soFar, e) (mapN-more f i l 0 k) }
+
+  pub mapping-end : {x : List ℕ} {i : ℕ} → Mapping x i → size ≤ i → x ≡ mapN f 0 size l
+  mapping-end {x} {i} m h = let e : i ≡ size = omega (arith, m .within) in m .soFar ∙ ap (λ (n : ℕ). mapN f 0 n l) e
+
+module _ {B : Type 0} (g : ℕ → ℕ → B → B) (l : List ℕ) (b : B) (size : ℕ) where
+  pub record Gathering (x : B) (i : ℕ) : Type 0 where
+    pub within : i ≤ size
+    pub soFar : x ≡ foldN g 0 i l b
+
+  pub gathering-more : {x y : B} {i : ℕ} → Gathering x i → i < size → i < length l → y ≡ g i (getD l i 0) x → Gathering y (i + 1)
+  gathering-more {x} {y} {i} m h k e = record { within = omega arith; soFar = e ∙ rw (m .soFar) (foldN-more g i l 0 b k) }
+
+  pub gathering-end : {x : B} {i : ℕ} → Gathering x i → size ≤ i → x ≡ foldN g 0 size l b
+  gathering-end {x} {i} m h = let e : i ≡ size = omega (arith, m .within) in m .soFar ∙ ap (λ (n : ℕ). foldN g 0 n l b) e
+
+-- ---- one event moves every range
+
+module _ (g : Ranges) (name seen : ℕ) (st : RuleState) where
+  pub record Turning (x : List ℕ) (count : ℕ) (bad idle : Bool) (i : ℕ) : Type 0 where
+    pub states : Mapping (moveOf g name seen (st .count)) (st .states) (g .size) x i
+    pub counts : Gathering (countOf g name seen (st .count)) (st .states) (st .count) (g .size) count i
+    pub bads : Gathering (badOf g name seen (st .count)) (st .states) false (g .size) bad i
+    pub idles : Gathering (idleOf g name seen (st .count)) (st .states) true (g .size) idle i
+
+  pub turning-more : {x : List ℕ} {count count′ i n class u v y : ℕ} {bad bad′ idle idle′ : Bool} → Turning x count bad idle i → i < g .size → i < length (st .states)
+      → n ≡ nameIn (wordAt g i) → class ≡ classAt seen name n → v ≡ highIn (wordAt g i) → u ≡ lowIn (wordAt g i)
+      → y ≡ nextState (getD (st .states) i 0) class (g .join) (st .count) u v → count′ ≡ countAt class (getD (st .states) i 0) (st .count) v count
+      → bad′ ≡ (bad || eqb y 5) → idle′ ≡ (idle && eqb y 0)
+      → Turning (set x i y) count′ bad′ idle′ (i + 1)
+  turning-more {x} {count} {count′} {i} {n} {class} {u} {v} {y} t h k en ec ev eu ey ek eb ei =
+      let moved : y ≡ moveOf g name seen (st .count) i (getD (st .states) i 0) = ey ∙ rw (ec, en, eu, ev) in
+      record {
+        states = mapping-more _ _ _ (t .states) h k moved;
+        counts = gathering-more _ _ _ _ (t .counts) h k (ek ∙ rw (ec, en, ev));
+        bads = gathering-more _ _ _ _ (t .bads) h k (eb ∙ rw moved);
+        idles = gathering-more _ _ _ _ (t .idles) h k (ei ∙ rw moved);
+      }
+
+  pub turning-end : {x : List ℕ} {count i : ℕ} {bad idle : Bool} → Turning x count bad idle i → g .size ≤ i → record { states = x; count = count; bad = bad; idle = idle } ≡ turnOf g name seen st
+  unfolding turnOf
+  turning-end t h = rw (mapping-end _ _ _ (t .states) h, gathering-end _ _ _ _ (t .counts) h, gathering-end _ _ _ _ (t .bads) h, gathering-end _ _ _ _ (t .idles) h)
+
+-- ---- a number past the list's end changes no more than its elements
+
+mapN-past : (f : ℕ → ℕ → ℕ) (k n : ℕ) (l : List ℕ) → length l ≤ n → mapN f k n l ≡ mapN f k (length l) l
+mapN-past f k zero [] h = refl
+mapN-past f k zero (x ∷ l) h = absurd (not-suc-le-zero h)
+mapN-past f k (suc n) [] h = refl
+mapN-past f k (suc n) (x ∷ l) h = ap (λ (t : List ℕ). f k x ∷ t) (mapN-past f (suc k) n l (le-of-suc-le-suc h))
+
+pub fresh-past : (size : ℕ) → 8 < size → freshStates size ≡ freshStates 8
+unfolding freshStates
+fresh-past size h = mapN-past unbegunOf 0 size zeros (omega (arith, h))

@@ -1,0 +1,19 @@
+-- `step::due` meets its contract: at each return the test is as in `dueOf`. Assumes nothing.
+use Rattle.step.specs.Steps.{dueOf}
+use borrow.Author.Needs.{needs}
+use Rattle.step.proofs.due.Statement.{statement}
+use Rattle.step.proofs.due.Tie as tie
+
+past-requires : tie.Need-past-requires
+past-requires c κs = search needs
+
+returns : tie.Need-returns
+unfolding dueOf
+returns c = rw (← c .before .past .ensures, c .if1 .taken)
+
+returns-2 : tie.Need-returns-2
+unfolding dueOf
+returns-2 c = rw (← c .before .past .ensures, c .if1 .left)
+
+pub due-spec : {M : Type 1} → statement M
+due-spec = tie.close (tie.spec past-requires returns returns-2)

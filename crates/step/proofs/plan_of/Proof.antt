@@ -1,0 +1,24 @@
+-- `step::plan_of` meets its contract: each field is what the head holds. Assumes nothing.
+use Rattle.step.specs.Steps.{planOf}
+use borrow.Author.Needs.{needs}
+use Rattle.step.proofs.plan_of.Statement.{statement}
+use Rattle.step.proofs.plan_of.Tie as tie
+
+kind-requires : tie.Need-kind-requires
+kind-requires c κs = search needs
+
+fragments-in-p-requires : tie.Need-fragments-in-p-requires
+fragments-in-p-requires c κs = search needs
+
+fragments-in-round-requires : tie.Need-fragments-in-round-requires
+fragments-in-round-requires c κs = search needs
+
+time-requires : tie.Need-time-requires
+time-requires c κs = search needs
+
+returns : tie.Need-returns
+unfolding planOf
+returns c = rw (c .before .before .before .kind .ensures, c .before .before .fragments-in-p .ensures, c .before .fragments-in-round .ensures, c .time .ensures)
+
+pub plan-of-spec : {M : Type 1} → statement M
+plan-of-spec = tie.close (tie.spec kind-requires fragments-in-p-requires fragments-in-round-requires time-requires returns)

@@ -1,0 +1,88 @@
+-- `step::turn` meets its contract: the loop has what `Turning` says of the ranges passed. Assumes nothing.
+use mathlib.Core.Path.{_≡_}
+use Prim.Native.Nat.{_-_}
+use native.Mathlib.Omega.{arith}
+use lib.ListN.{length}
+use Rattle.step.proofs.Loops.{Turning, turning-more, turning-end}
+use borrow.Author.Needs.{needs}
+use Rattle.step.proofs.turn.Statement.{statement}
+use Rattle.step.proofs.turn.Tie as tie
+
+abbrev Inv-loop : tie.InvT-loop
+Inv-loop ranges base size join st name seen old x₀ count₀ bad₀ idle₀ i₀ x count bad idle i =
+    Turning (record { words = ranges; base = base; size = size; join = join }) name seen st x count bad idle i × (old ≡ st .states) × (length old ≡ 8)
+
+abbrev μ-loop : tie.MeasureT-loop
+μ-loop ranges base size join st name seen old x₀ count₀ bad₀ idle₀ i₀ x count bad idle i = size - i
+
+loop-holds : tie.Need-loop-holds Inv-loop μ-loop
+loop-holds c = search needs
+
+add-word : tie.Need-add-word Inv-loop μ-loop
+add-word c = search needs
+
+mul-word : tie.Need-mul-word Inv-loop μ-loop
+mul-word c = search needs
+
+element-copy-out-word : tie.Need-element-copy-out-word Inv-loop μ-loop
+element-copy-out-word c = search needs
+
+name-requires : tie.Need-name-requires Inv-loop μ-loop
+name-requires c κs = search needs
+
+class-of-requires : tie.Need-class-of-requires Inv-loop μ-loop
+class-of-requires c κs = search needs
+
+high-requires : tie.Need-high-requires Inv-loop μ-loop
+high-requires c κs = search needs
+
+array-read-next-state : tie.Need-array-read-next-state Inv-loop μ-loop
+array-read-next-state c = search needs
+
+low-requires : tie.Need-low-requires Inv-loop μ-loop
+low-requires c κs = search needs
+
+next-state-requires : tie.Need-next-state-requires Inv-loop μ-loop
+next-state-requires c κs = search needs
+
+array-read-counted : tie.Need-array-read-counted Inv-loop μ-loop
+array-read-counted c = search needs
+
+counted-requires : tie.Need-counted-requires Inv-loop μ-loop
+counted-requires c κs = search needs
+
+or-requires : tie.Need-or-requires Inv-loop μ-loop
+or-requires c κs = search needs
+
+and-requires : tie.Need-and-requires Inv-loop μ-loop
+and-requires c κs = search needs
+
+array-write-x : tie.Need-array-write-x Inv-loop μ-loop
+array-write-x c = search needs
+
+add-i : tie.Need-add-i Inv-loop μ-loop
+add-i c = search needs
+
+loop-less : tie.Need-loop-less Inv-loop μ-loop
+loop-less c = search needs
+
+loop-again : tie.Need-loop-again Inv-loop μ-loop
+loop-again c = (
+  turning-more _ _ _ _ (c .before .before .before .before .before .before .before .before .before .before .loop .inv .0) (omega arith) (omega arith)
+      (c .before .before .before .before .before .before .before .name .ensures)
+      (c .before .before .before .before .before .before .class-of .ensures)
+      (c .before .before .before .before .before .high .ensures)
+      (c .before .before .before .before .low .ensures)
+      (c .before .before .before .next-state .ensures)
+      (c .before .before .counted .ensures)
+      (c .before .or .ensures)
+      (c .and .ensures),
+  search needs,
+  search needs,
+)
+
+returns : tie.Need-returns Inv-loop μ-loop
+returns c = turning-end _ _ _ _ (c .before .loop .inv .0) (c .loop-test .left)
+
+pub turn-spec : {M : Type 1} → statement M
+turn-spec = tie.close (tie.spec Inv-loop μ-loop loop-holds add-word mul-word element-copy-out-word name-requires class-of-requires high-requires array-read-next-state low-requires next-state-requires array-read-counted counted-requires or-requires and-requires array-write-x add-i loop-less loop-again returns)

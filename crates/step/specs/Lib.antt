@@ -1,0 +1,3 @@
+pub mod Upto
+pub mod Steps
+pub mod Decode

@@ -1,0 +1,48 @@
+-- A loop over a small array: each of the first n elements changed by its place, and a value gathered from them. Two laws serve every such loop.
+-- Assumes nothing.
+use mathlib.Core.Path.{_≡_, sym, _∙_, ap}
+use mathlib.Core.List.{List, [], _∷_}
+use Prim.Native.Nat.{ℕ, zero, suc, _+_, _<_}
+use native.Mathlib.Nat.{add-zero, zero-add, add-suc, suc-add, le-of-suc-le-suc, not-suc-le-zero}
+use native.Mathlib.Numerals.{add-one}
+use lib.ListN.{length, getD, set}
+
+module _ {A : Type 0} where
+  -- the n elements from number k on, each changed by f of its number
+  abbrev pub mapN : (ℕ → A → A) → ℕ → ℕ → List A → List A
+  mapN f k zero l = l
+  mapN f k (suc n) [] = []
+  mapN f k (suc n) (x ∷ l) = f k x ∷ mapN f (suc k) n l
+
+  set-mapN : (f : ℕ → A → A) (k n : ℕ) (l : List A) (d : A) → n < length l → set (mapN f k n l) n (f (k + n) (getD l n d)) ≡ mapN f k (suc n) l
+  set-mapN f k n [] d h = absurd (not-suc-le-zero h)
+  set-mapN f k zero (x ∷ l) d h = ap (λ (i : ℕ). f i x ∷ l) (add-zero k)
+  set-mapN f k (suc n) (x ∷ l) d h =
+      ap (λ (i : ℕ). f k x ∷ set (mapN f (suc k) n l) n (f i (getD l n d))) (add-suc k n ∙ sym (suc-add k n))
+      ∙ ap (λ (t : List A). f k x ∷ t) (set-mapN f (suc k) n l d (le-of-suc-le-suc h))
+
+  -- one turn of the loop
+  pub mapN-more : (f : ℕ → A → A) (n : ℕ) (l : List A) (d : A) → n < length l → set (mapN f 0 n l) n (f n (getD l n d)) ≡ mapN f 0 (n + 1) l
+  mapN-more f n l d h =
+      ap (λ (i : ℕ). set (mapN f 0 n l) n (f i (getD l n d))) (sym (zero-add n)) ∙ set-mapN f 0 n l d h
+      ∙ ap (λ (i : ℕ). mapN f 0 i l) (sym (add-one n))
+
+module _ {A B : Type 0} where
+  -- the n elements from number k on, gathered into b
+  abbrev pub foldN : (ℕ → A → B → B) → ℕ → ℕ → List A → B → B
+  foldN g k zero l b = b
+  foldN g k (suc n) [] b = b
+  foldN g k (suc n) (x ∷ l) b = foldN g (suc k) n l (g k x b)
+
+  foldN-suc : (g : ℕ → A → B → B) (k n : ℕ) (l : List A) (d : A) (b : B) → n < length l → g (k + n) (getD l n d) (foldN g k n l b) ≡ foldN g k (suc n) l b
+  foldN-suc g k n [] d b h = absurd (not-suc-le-zero h)
+  foldN-suc g k zero (x ∷ l) d b h = ap (λ (i : ℕ). g i x b) (add-zero k)
+  foldN-suc g k (suc n) (x ∷ l) d b h =
+      ap (λ (i : ℕ). g i (getD l n d) (foldN g (suc k) n l (g k x b))) (add-suc k n ∙ sym (suc-add k n))
+      ∙ foldN-suc g (suc k) n l d (g k x b) (le-of-suc-le-suc h)
+
+  -- one turn of the loop
+  pub foldN-more : (g : ℕ → A → B → B) (n : ℕ) (l : List A) (d : A) (b : B) → n < length l → g n (getD l n d) (foldN g 0 n l b) ≡ foldN g 0 (n + 1) l b
+  foldN-more g n l d b h =
+      ap (λ (i : ℕ). g i (getD l n d) (foldN g 0 n l b)) (sym (zero-add n)) ∙ foldN-suc g 0 n l d b h
+      ∙ ap (λ (i : ℕ). foldN g 0 i l b) (sym (add-one n))
