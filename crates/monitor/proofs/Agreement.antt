@@ -1,0 +1,169 @@
+-- Demand 3 for the code. A fresh monitor follows the judge that has kept nothing; one observation keeps the two together; so along every list the run of the calls answers as the judge: `agreement`.
+-- Assumes nothing.
+use mathlib.Core.Path.{_≡_, refl, sym, _∙_, ap, ap₂, subst}
+use mathlib.Core.Bool.{Bool, true, false, cond, not, _&&_, and-false}
+use mathlib.Core.List.{List, [], _∷_, map}
+use Prim.Native.Nat.{ℕ, zero, suc, _+_, _*_, _≤_, _<_}
+use native.Mathlib.Nat.{not-suc-le-zero, add-zero}
+use native.Mathlib.Omega.{arith}
+use lib.Dec.{T, ltb, eqb}
+use lib.ListN.{length, getD, replicate, length-append}
+use borrow.Author.Tests.{ltb-true}
+use Rattle.names.specs.Names.{member}
+use Rattle.names.proofs.Sets.{member-empty}
+use Rattle.pattern.specs.Lists.{Each}
+use Rattle.pattern.specs.Meaning.{Rule, Status, broken, whole, open′, WellFormed}
+use Rattle.pattern.specs.Judge.{Oracle, Right, allWhole, verdictOf, mask, Kept, nothing, judge, judgeAnswers, judgeKeeps}
+use Rattle.pattern.specs.Judge as J
+use Rattle.pattern.specs.Recogniser.{State, notBegun}
+use Rattle.pattern.specs.Model.{roundOf, fragmentAt, statuses, statusAt, atRest, freshMonitor, fresh}
+use Rattle.pattern.specs.Model as M
+use Rattle.pattern.specs.Numbers.{stateOf}
+use Rattle.pattern.proofs.Basics.{is-true}
+use Rattle.pattern.proofs.Oracle.{modelOracle, right-oracle}
+use Rattle.pattern.proofs.Tracks.{fresh-at-rest}
+use Rattle.pattern.proofs.Agreement.{fresh-follows}
+use Rattle.sheet.specs.Layout.{Sheet, WellFormedSheet, Bytes}
+use Rattle.sheet.specs.Pages.{ruleAt}
+use Rattle.sheet.specs.Reading.{accepted, readSheet}
+use Rattle.sheet.proofs.Acceptance.{accepted-is-encoded}
+use Rattle.book.specs.Words.{countIn}
+use Rattle.book.specs.Books.{Translates}
+use Rattle.book.specs.Looks.{Looks}
+use Rattle.book.specs.declared.Book.{Book}
+use Rattle.book.specs.declared.Translation.{Translation}
+use Rattle.book.proofs.Translated.{translated}
+use Rattle.step.specs.declared.RuleState.{RuleState}
+use Rattle.step.specs.Upto.{mapN}
+use Rattle.step.specs.Steps.{Ranges, rangesOf, unbegunOf, zeros, freshStates}
+use Rattle.step.specs.Decode.{decode, rangesFrom, HoldsFragment}
+use Rattle.step.proofs.Slots.{fresh-are}
+use Rattle.step.proofs.Status.{running, isTimed}
+use Rattle.step.proofs.Links.{Stands}
+use Rattle.monitor.specs.Pass.{noState}
+use Rattle.monitor.specs.Observe.{freshRule, freshOf}
+use Rattle.monitor.specs.Promise.{said, seen, verdictIn, modelAt, Represents, Follows, Observes, Freshes, Run, done, more, RunAgrees, CodeAgreement}
+use Rattle.monitor.specs.declared.Monitor.{Monitor}
+use Rattle.monitor.specs.declared.Observation.{Observation}
+use Rattle.monitor.specs.declared.Answer.{Answer}
+use Rattle.monitor.proofs.Holding.{rule-formed, holds-rule}
+use Rattle.monitor.proofs.Taking.{getD-mapN, length-mapN}
+use Rattle.monitor.proofs.Observing.{rules-formed}
+
+-- ---- the fresh monitor
+
+fresh-length : (rules : List Rule) → length (M.freshStates rules) ≡ length rules
+fresh-length [] = refl
+fresh-length (r ∷ rs) = ap suc (fresh-length rs)
+
+fresh-at : (rules : List Rule) (r : ℕ) (d : M.RuleState) → r < length rules → getD (M.freshStates rules) r d ≡ fresh (ruleAt rules r)
+fresh-at [] r d h = absurd (not-suc-le-zero h)
+fresh-at (x ∷ rs) zero d h = refl
+fresh-at (x ∷ rs) (suc r) d h = fresh-at rs r d (omega arith)
+
+-- every rule is whole
+whole-mask : (t : Status → Bool) → t whole ≡ false → (rules : List Rule) → Each WellFormed rules → (now : ℕ) → mask t (statuses rules (M.freshStates rules) now) ≡ 0
+whole-mask t z [] w now = refl
+whole-mask t z (r ∷ rs) w now =
+    let s : statusAt r (fresh r) now ≡ whole = rw (is-true (atRest r (fresh r)) (fresh-at-rest r (w .0))) in
+    rw (s, z, whole-mask t z rs (w .1) now)
+
+module _ (S : Sheet) (formed : WellFormedSheet S) (b : Book) (looks : Looks S b) where
+  abbrev first : ℕ → RuleState
+  first r = freshRule (b .fragments) r noState
+
+  rule-at : (r : ℕ) → r < 16 → getD (freshOf (b .fragments) .rules) r noState ≡ freshRule (b .fragments) r noState
+  unfolding freshOf
+  rule-at r h = getD-mapN (freshRule (b .fragments)) noState 0 16 (replicate 16 noState) r h (omega arith) ∙ ap (λ (i : ℕ). freshRule (b .fragments) i noState) (omega arith)
+
+  round-some : (r : ℕ) → r < length (S .rules) → 0 < length (roundOf (ruleAt (S .rules) r))
+  round-some r h = let p = rule-formed S formed b looks r h .p .count .0 in omega (arith, length-append (ruleAt (S .rules) r .p) (M.lastFragments (ruleAt (S .rules) r .kind)))
+
+  fresh-state : (r : ℕ) → r < length (S .rules) → decode (freshRule (b .fragments) r noState) ≡ fresh (ruleAt (S .rules) r)
+  unfolding freshStates rangesOf
+  fresh-state r h =
+      let rule : Rule = ruleAt (S .rules) r in
+      let w = holds-rule S formed b looks r h in
+      let inside : 0 < length (roundOf rule) = round-some r h in
+      let hf : HoldsFragment (rangesOf (b .fragments) (b .ranges) (16 * r + 0)) (fragmentAt rule 0) = w .holds .fragment 0 inside in
+      let g : Ranges = rangesOf (b .fragments) (b .ranges) (16 * r + 0) in
+      let n : countIn (getD (b .fragments) (16 * r) 0) ≡ g .size = ap (λ (i : ℕ). countIn (getD (b .fragments) i 0)) (sym (add-zero (16 * r))) in
+      let ss : map stateOf (mapN unbegunOf 0 (countIn (getD (b .fragments) (16 * r) 0)) zeros) ≡ notBegun (fragmentAt rule 0 .ranges) 8 = ap (λ (k : ℕ). map stateOf (mapN unbegunOf 0 k zeros)) n ∙ fresh-are g (g .size) 0 8 (hf .few) ∙ rw (hf .ranges) in
+      λ i. record { fragment = 0; states = ss i; count = 0; end = 0 }
+
+  fresh-represents : Represents (S .rules) (freshMonitor (S .rules)) (freshOf (b .fragments))
+  unfolding freshOf freshStates
+  fresh-represents = record {
+    sixteen = length-mapN (freshRule (b .fragments)) 0 16 (replicate 16 noState);
+    many = fresh-length (S .rules);
+    state = λ r h. ap decode (rule-at r (small r h)) ∙ fresh-state r h ∙ sym (fresh-at (S .rules) r (decode noState) h);
+    stands = λ r h. subst (Stands (ruleAt (S .rules) r)) (sym (rule-at r (small r h))) (record { inside = round-some r h; eight = length-mapN unbegunOf 0 (countIn (getD (b .fragments) (16 * r) 0)) zeros });
+    time = refl;
+    count = refl;
+    verdict′ = refl;
+    settled = sym (rw (whole-mask J.isBroken refl (S .rules) (rules-formed S formed) 0, whole-mask J.isOpen refl (S .rules) (rules-formed S formed) 0));
+    opens = λ z. sym (whole-mask J.isOpen refl (S .rules) (rules-formed S formed) 0);
+    due = λ z r. member-empty r ∙ sym (idle r);
+  }
+    where
+      small : (r : ℕ) → r < length (S .rules) → r < 16
+      small r h = let few = formed .count .1 in omega arith
+
+      idle : (r : ℕ) → (ltb r (length (S .rules)) && running (ruleAt (S .rules) r) (modelAt (M.freshStates (S .rules)) r)) ≡ false
+      idle r = look (ltb r (length (S .rules))) refl
+        where
+          look : (x : Bool) → ltb r (length (S .rules)) ≡ x → (x && running (ruleAt (S .rules) r) (modelAt (M.freshStates (S .rules)) r)) ≡ false
+          look true q =
+              let h : r < length (S .rules) = ltb-true r (length (S .rules)) q in
+              rw (fresh-at (S .rules) r (decode noState) h, is-true (atRest (ruleAt (S .rules) r) (fresh (ruleAt (S .rules) r))) (fresh-at-rest (ruleAt (S .rules) r) (rule-formed S formed b looks r h))) (and-false (isTimed (ruleAt (S .rules) r .kind)))
+          look false q = refl
+
+-- what the code's fresh monitor promises follows from its equation
+pub fresh-promise : (fragments : List ℕ) (m : Monitor) → m ≡ freshOf fragments → Freshes fragments m
+fresh-promise fragments m e S b formed looks lent = record {
+  formed = formed;
+  looks = looks;
+  falls = tt;
+  model = freshMonitor (S .rules);
+  follows = fresh-follows (S .rules);
+  represents = subst (Represents (S .rules) (freshMonitor (S .rules))) (sym (e ∙ ap freshOf (sym lent))) (fresh-represents S formed b looks);
+}
+
+-- ---- what following says of a monitor
+
+pub follows-taken : (S : Sheet) (k : Kept) (b : Book) (m : Monitor) → Follows S k b m → m .taken ≡ length (k .taken)
+follows-taken S k b m f = f .represents .count ∙ f .follows .taken
+
+pub follows-verdict : (S : Sheet) (k : Kept) (b : Book) (m : Monitor) → Follows S k b m → verdictIn m ≡ k .verdict
+follows-verdict S k b m f = f .represents .verdict′ ∙ f .follows .verdict
+
+-- ---- the whole list
+
+module _ (S : Sheet) (b : Book) (oracle : Oracle) (right : Right (S .rules) oracle) where
+  pub record Along (k : Kept) (os : List Observation) (as′ : List Answer) (last : Monitor) : Type 0 where
+    pub answered : map said as′ ≡ judgeAnswers oracle k (map seen os)
+    pub follows : Follows S (judgeKeeps oracle k (map seen os)) b last
+
+  along : {m last : Monitor} {os : List Observation} {as′ : List Answer} → Run b m os as′ last → (k : Kept) → Follows S k b m → Along k os as′ last
+  along done k f = record { answered = refl; follows = f }
+  along (more {o = o} c run) k f =
+      let a = along run (judge oracle k (seen o) .kept) (c .follows S k f oracle right) in
+      record { answered = ap₂ (λ (x : J.Answer) (l : List J.Answer). x ∷ l) (c .answers S k f oracle right) (a .answered); follows = a .follows }
+
+-- for every accepted sheet's bytes and every list of observations: what reading, translating, opening and observing one after the other answers is what the judge answers
+pub agreement : (bytes : List ℕ) → Bytes bytes → (t : Translation) → Translates bytes t → (S : Sheet) → readSheet bytes ≡ accepted S
+    → (m : Monitor) → Freshes (t .book .fragments) m → (os : List Observation) (as′ : List Answer) (last : Monitor) → Run (t .book) m os as′ last → CodeAgreement S os as′ last
+agreement bytes are t translates S is m freshes os as′ last run = record { judged = (modelOracle (S .rules), right-oracle (S .rules) (rules-formed S formed)); agrees = agrees }
+  where
+    formed : WellFormedSheet S
+    formed = accepted-is-encoded bytes are is .formed
+
+    agrees : (oracle : Oracle) → Right (S .rules) oracle → RunAgrees S os as′ last oracle
+    agrees oracle right =
+        let f = freshes S (t .book) formed (translated bytes t are translates S is) refl in
+        let a = along S (t .book) oracle right run nothing f in
+        record {
+          answered = a .answered;
+          taken = follows-taken S (judgeKeeps oracle nothing (map seen os)) (t .book) last (a .follows);
+          verdict = follows-verdict S (judgeKeeps oracle nothing (map seen os)) (t .book) last (a .follows);
+        }

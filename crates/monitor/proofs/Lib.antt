@@ -1,0 +1,7 @@
+pub mod Places
+pub mod Passing
+pub mod Holding
+pub mod Rulewise
+pub mod Taking
+pub mod Observing
+pub mod Agreement

@@ -1,0 +1,286 @@
+-- One observation over the book of a sheet answers as the judge, and the monitor then follows what the judge keeps.
+-- Assumes nothing.
+use mathlib.Core.Path.{_≡_, refl, sym, _∙_, ap, ap₂, subst}
+use mathlib.Core.Logic.{_⊎_, inl, inr, _≢_}
+use mathlib.Core.Bool.{Bool, true, false, cond, not, _&&_, _||_, and-false}
+use mathlib.Core.Option.{Option, none, some}
+use mathlib.Core.List.{List, [], _∷_}
+use Prim.Native.Nat.{ℕ, zero, suc, _+_, _≤_, _<_}
+use native.Mathlib.Numerals.{add-one}
+use native.Mathlib.Omega.{arith}
+use lib.Dec.{T, leb, ltb, eqb}
+use lib.ListN.{length, getD}
+use borrow.Author.Tests.{leb-false, eqb-true, eqb-false, ltb-true}
+use Rattle.names.specs.Names.{member}
+use Rattle.names.proofs.Sets.{member-empty}
+use Rattle.pattern.specs.Lists.{Each, isIn}
+use Rattle.pattern.specs.Meaning.{Rule, namesOf, Status, broken, whole, open′, WellFormed}
+use Rattle.pattern.specs.Judge.{NeverFalls, Oracle, Right, Verdict, allWhole, someOpen, brokenAt, verdictOf, mask, Kept, refusal, judge}
+use Rattle.pattern.specs.Judge as J
+use Rattle.pattern.specs.Model.{statusAt, statuses, afterAll, take, orRefuse, orStopped, observe}
+use Rattle.pattern.specs.Model as M
+use Rattle.pattern.proofs.Basics.{zero-one}
+use Rattle.pattern.proofs.Oracle.{modelOracle, right-oracle, one-turn}
+use Rattle.pattern.proofs.Agreement.{together}
+use Rattle.pattern.proofs.Agreement as A
+use Rattle.sheet.specs.Layout.{Sheet, WellFormedSheet, WellFormedRule}
+use Rattle.sheet.specs.Pages.{ruleAt}
+use Rattle.book.specs.Looks.{Looks}
+use Rattle.book.specs.declared.Book.{Book}
+use Rattle.masks.proofs.Statuses.{member-mask}
+use Rattle.step.specs.Steps.{Tables, planOf}
+use Rattle.step.specs.Decode.{decode}
+use Rattle.step.proofs.Status.{running}
+use Rattle.step.proofs.Links.{Rules}
+use Rattle.monitor.specs.Pass.{noState, passOf}
+use Rattle.monitor.specs.Observe.{judgedOf, refusedOf, takenOf, lookedOf, observeOf}
+use Rattle.monitor.specs.Promise.{said, seen, verdictIn, modelAt, Represents, Follows, Observes, Lends, ObservesLent}
+use Rattle.monitor.specs.declared.Pass.{Pass}
+use Rattle.monitor.specs.declared.Monitor.{Monitor}
+use Rattle.monitor.specs.declared.Observation.{Observation}
+use Rattle.monitor.specs.declared.Observation.the-variants.{Event, Clock}
+use Rattle.monitor.specs.declared.Answer.{Answer}
+use Rattle.monitor.specs.declared.Answer.the-variants.{Whole, Open, Broken, Refused}
+use Rattle.monitor.specs.declared.Observed.{Observed}
+use Rattle.monitor.proofs.Holding.{holds-rule}
+use Rattle.monitor.proofs.Taking.{status-at, statuses-length, after-length, pass-sixteen, pass-state, pass-stands, pass-broken, pass-open, pass-due}
+
+-- ---- the verdict of a pass is the judge's
+
+-- by whether a mask is empty
+abbrev judgedBy : Bool → Bool → Pass → ℕ → ℕ → Observed
+judgedBy true true p k time = record { monitor = record { rules = p .rules; taken = k; latest = time; verdict = 0; mask = 0; dues = p .dues }; answer = Whole }
+judgedBy true false p k time = record { monitor = record { rules = p .rules; taken = k; latest = time; verdict = 1; mask = p .opens; dues = p .dues }; answer = Open (p .opens) }
+judgedBy false y p k time = record { monitor = record { rules = p .rules; taken = k; latest = time; verdict = 2; mask = p .broken; dues = p .dues }; answer = Broken k (p .broken) }
+
+judged-is : (p : Pass) (k time : ℕ) → judgedOf p k time ≡ judgedBy (eqb (p .broken) 0) (eqb (p .opens) 0) p k time
+unfolding judgedOf
+judged-is p k time = look (eqb (p .broken) 0) (eqb (p .opens) 0)
+  where
+    look : (x y : Bool) → cond {A = Observed} x (cond y (judgedBy true true p k time) (judgedBy true false p k time)) (judgedBy false true p k time) ≡ judgedBy x y p k time
+    look true true = refl
+    look true false = refl
+    look false y = refl
+
+says : (p : Pass) (k time : ℕ) (ss : List Status) → p .broken ≡ mask J.isBroken ss → p .opens ≡ mask J.isOpen ss → said (judgedOf p k time .answer) ≡ J.verdict (verdictOf k ss)
+says p k time ss b o = ap (λ (r : Observed). said (r .answer)) (judged-is p k time) ∙ look (eqb (p .broken) 0) (eqb (p .opens) 0) ∙ rw (b, o)
+  where
+    look : (x y : Bool) → said (judgedBy x y p k time .answer) ≡ J.verdict (cond x (cond y allWhole (someOpen (p .opens))) (brokenAt k (p .broken)))
+    look true true = refl
+    look true false = refl
+    look false y = refl
+
+-- ---- a monitor and the model's monitor take one observation alike
+
+pub record Alike (rules : List Rule) (reply : M.Reply) (r : Observed) : Type 0 where
+  pub answer : said (r .answer) ≡ reply .answer
+  pub represents : Represents rules (reply .monitor) (r .monitor)
+
+module _ (S : Sheet) (formed : WellFormedSheet S) (b : Book) (looks : Looks S b) where
+  abbrev rules : List Rule
+  rules = S .rules
+
+  abbrev tables : Tables
+  tables = record { heads = b .heads; fragments = b .fragments; names = b .names; ranges = b .ranges }
+
+  held : (r : ℕ) → r < length (S .rules) → Rules (b .fragments) (b .names) (b .ranges) r (planOf (getD (b .heads) r 0)) (ruleAt (S .rules) r)
+  held r h = holds-rule S formed b looks r h
+
+  module _ (model : M.Monitor) (m : Monitor) (rep : Represents (S .rules) model m) (running′ : eqb (m .verdict) 2 ≡ false) where
+    -- no rule was broken before
+    calm : (r : ℕ) → r < length (S .rules) → J.isBroken (statusAt (ruleAt (S .rules) r) (modelAt (model .rules) r) (model .latest)) ≡ false
+    calm r h =
+        let ss : List Status = statuses (S .rules) (model .rules) (model .latest) in
+        let l : length ss ≡ length (S .rules) = statuses-length (S .rules) (model .rules) (model .latest) (rep .many) in
+        ap J.isBroken (sym (status-at (S .rules) (model .rules) (model .latest) r (decode noState) whole (rep .many) h))
+        ∙ sym (member-mask J.isBroken ss r whole (omega (arith, l)))
+        ∙ ap (λ (n : ℕ). member n r) (none-broken (eqb (mask J.isBroken (statuses (S .rules) (model .rules) (model .latest))) 0) refl (rep .verdict′ ∙ rep .settled))
+        ∙ member-empty r
+      where
+        none-broken : (z : Bool) → eqb (mask J.isBroken (statuses (S .rules) (model .rules) (model .latest))) 0 ≡ z → verdictIn m ≡ verdictOf (model .taken) (statuses (S .rules) (model .rules) (model .latest)) → mask J.isBroken (statuses (S .rules) (model .rules) (model .latest)) ≡ 0
+        none-broken true q e = eqb-true (mask J.isBroken (statuses (S .rules) (model .rules) (model .latest))) 0 q
+        none-broken false q e = absurd (clash (eqb (m .verdict) 1) (rw (running′, q) at e))
+          where
+            clash : (y : Bool) → cond y (someOpen (m .mask)) allWhole ≡ brokenAt (model .taken) (mask J.isBroken (statuses (S .rules) (model .rules) (model .latest))) → ⊥
+            clash true c = let w : _≡_ {A = ℕ} 0 1 = cc in zero-one w
+            clash false c = let w : _≡_ {A = ℕ} 0 1 = cc in zero-one w
+
+    -- an observation that is taken
+    module _ (o : J.Observation) (concerned name time : ℕ) (named : name < 64) (when : J.timeOf o ≡ time) (own : ℕ → Bool) (concern-is : (r : ℕ) → member concerned r ≡ (ltb r (length (S .rules)) && own r))
+        (after-is : (r : ℕ) → r < length (S .rules) → (st : M.RuleState) → M.after (ruleAt (S .rules) r) st o ≡ cond (own r) (M.step (ruleAt (S .rules) r) st (record { name = name; time = time })) st) where
+      abbrev P : Pass
+      P = passOf tables concerned (m .mask) (m .dues) (m .rules) name time
+
+      abbrev sts : List M.RuleState
+      sts = afterAll (S .rules) (model .rules) o
+
+      abbrev ss : List Status
+      ss = statuses (S .rules) sts time
+
+      broken-mask : P .broken ≡ mask J.isBroken ss
+      broken-mask = pass-broken tables (S .rules) (formed .count .1) held (model .rules) (rep .many) (model .latest) calm (m .rules) (rep .sixteen) (rep .state) (rep .stands) (m .mask) (rep .opens running′) (m .dues) (rep .due running′) o concerned name time named own concern-is after-is
+
+      open-mask : P .opens ≡ mask J.isOpen ss
+      open-mask = pass-open tables (S .rules) (formed .count .1) held (model .rules) (rep .many) (model .latest) calm (m .rules) (rep .sixteen) (rep .state) (rep .stands) (m .mask) (rep .opens running′) (m .dues) (rep .due running′) o concerned name time named own concern-is after-is
+
+      due-mask : P .broken ≡ 0 → (r : ℕ) → member (P .dues) r ≡ (ltb r (length (S .rules)) && running (ruleAt (S .rules) r) (modelAt sts r))
+      due-mask = pass-due tables (S .rules) (formed .count .1) held (model .rules) (rep .many) (model .latest) calm (m .rules) (rep .sixteen) (rep .state) (rep .stands) (m .mask) (rep .opens running′) (m .dues) (rep .due running′) o concerned name time named own concern-is after-is
+
+      taken-is : m .taken + 1 ≡ suc (model .taken)
+      taken-is = omega (arith, rep .count)
+
+      verdict-is : take (S .rules) model o .verdict ≡ verdictOf (suc (model .taken)) ss
+      verdict-is = ap (λ (t : ℕ). verdictOf (suc (model .taken)) (statuses (S .rules) sts t)) when
+
+      -- the new monitor, by its verdict
+      module _ (v mask′ dues′ : ℕ) where
+        abbrev made : Monitor
+        made = record { rules = P .rules; taken = m .taken + 1; latest = time; verdict = v; mask = mask′; dues = dues′ }
+
+        makes : verdictIn made ≡ verdictOf (suc (model .taken)) ss → (eqb v 2 ≡ false → mask′ ≡ mask J.isOpen ss) → (eqb v 2 ≡ false → (r : ℕ) → member dues′ r ≡ (ltb r (length (S .rules)) && running (ruleAt (S .rules) r) (modelAt sts r))) → Represents (S .rules) (take (S .rules) model o) made
+        makes e f g = record {
+          sixteen = pass-sixteen tables (S .rules) (formed .count .1) held (model .rules) (rep .many) (model .latest) calm (m .rules) (rep .sixteen) (rep .state) (rep .stands) (m .mask) (rep .opens running′) (m .dues) (rep .due running′) o concerned name time named own concern-is after-is;
+          many = after-length (S .rules) (model .rules) o (rep .many);
+          state = pass-state tables (S .rules) (formed .count .1) held (model .rules) (rep .many) (model .latest) calm (m .rules) (rep .sixteen) (rep .state) (rep .stands) (m .mask) (rep .opens running′) (m .dues) (rep .due running′) o concerned name time named own concern-is after-is;
+          stands = pass-stands tables (S .rules) (formed .count .1) held (model .rules) (rep .many) (model .latest) calm (m .rules) (rep .sixteen) (rep .state) (rep .stands) (m .mask) (rep .opens running′) (m .dues) (rep .due running′) o concerned name time named own concern-is after-is;
+          time = sym when;
+          count = taken-is;
+          verdict′ = e ∙ sym verdict-is;
+          settled = refl;
+          opens = λ z. f z ∙ ap (λ (t : ℕ). mask J.isOpen (statuses (S .rules) sts t)) (sym when);
+          due = g;
+        }
+
+      -- the monitor that the pass gives
+      represents : Represents (S .rules) (take (S .rules) model o) (judgedOf P (m .taken + 1) time .monitor)
+      represents = subst (λ (x : Observed). Represents (S .rules) (take (S .rules) model o) (x .monitor)) (sym (judged-is P (m .taken + 1) time)) (look (eqb (P .broken) 0) refl (eqb (P .opens) 0) refl)
+        where
+          verdict-by : (x y : Bool) → eqb (P .broken) 0 ≡ x → eqb (P .opens) 0 ≡ y → verdictOf (suc (model .taken)) ss ≡ cond x (cond y allWhole (someOpen (P .opens))) (brokenAt (suc (model .taken)) (P .broken))
+          verdict-by x y q q′ = rw (← broken-mask, ← open-mask, q, q′)
+
+          look : (x : Bool) → eqb (P .broken) 0 ≡ x → (y : Bool) → eqb (P .opens) 0 ≡ y → Represents (S .rules) (take (S .rules) model o) (judgedBy x y P (m .taken + 1) time .monitor)
+          look true q true q′ = makes 0 0 (P .dues) (sym (verdict-by true true q q′)) (λ z. sym (eqb-true (P .opens) 0 q′) ∙ open-mask) (λ z. due-mask (eqb-true (P .broken) 0 q))
+          look true q false q′ = makes 1 (P .opens) (P .dues) (sym (verdict-by true false q q′)) (λ z. open-mask) (λ z. due-mask (eqb-true (P .broken) 0 q))
+          look false q y q′ = makes 2 (P .broken) (P .dues) (ap (λ (n : ℕ). brokenAt n (P .broken)) taken-is ∙ sym (verdict-by false y q q′)) (λ z. (let w : _≡_ {A = ℕ} 0 1 = cc in absurd (zero-one w))) (λ z. (let w : _≡_ {A = ℕ} 0 1 = cc in absurd (zero-one w)))
+
+      takes : Alike (S .rules) (orRefuse (S .rules) model o none) (judgedOf P (m .taken + 1) time)
+      takes = record { answer = says P (m .taken + 1) time ss broken-mask open-mask ∙ ap (λ (n : ℕ). J.verdict (verdictOf n ss)) taken-is ∙ ap J.verdict (sym verdict-is); represents = represents }
+
+    -- an observation whose name is right: 11, 13, or taken
+    module _ (o : J.Observation) (concerned name time : ℕ) (named : name < 64) (when : J.timeOf o ≡ time) (good : J.badName o ≡ false) (own : ℕ → Bool) (concern-is : (r : ℕ) → member concerned r ≡ (ltb r (length (S .rules)) && own r))
+        (after-is : (r : ℕ) → r < length (S .rules) → (st : M.RuleState) → M.after (ruleAt (S .rules) r) st o ≡ cond (own r) (M.step (ruleAt (S .rules) r) st (record { name = name; time = time })) st) where
+      named-right : Alike (S .rules) (orRefuse (S .rules) model o (refusal (model .latest) (model .taken) o)) (takenOf tables m concerned name time)
+      unfolding takenOf refusedOf
+      named-right = subst (λ (n : Option ℕ). Alike (S .rules) (orRefuse (S .rules) model o n) (takenOf tables m concerned name time)) (sym refusal-is) (look (ltb time (m .latest)) (leb 4294967295 (m .taken)))
+        where
+          refusal-is : refusal (model .latest) (model .taken) o ≡ cond (ltb time (m .latest)) (some 11) (cond (leb 4294967295 (m .taken)) (some 13) none)
+          refusal-is = ap₂ (λ (t n : ℕ). refusal t n o) (sym (rep .time)) (sym (rep .count)) ∙ rw (good, when)
+
+          look : (x y : Bool) → Alike (S .rules) (orRefuse (S .rules) model o (cond x (some 11) (cond y (some 13) none))) (cond x (record { monitor = m; answer = Refused 11 }) (cond y (record { monitor = m; answer = Refused 13 }) (judgedOf (passOf tables concerned (m .mask) (m .dues) (m .rules) name time) (m .taken + 1) time)))
+          look true y = record { answer = refl; represents = rep }
+          look false true = record { answer = refl; represents = rep }
+          look false false = takes o concerned name time named when own concern-is after-is
+
+    looked : (o : Observation) → Alike (S .rules) (orRefuse (S .rules) model (seen o) (refusal (model .latest) (model .taken) (seen o))) (lookedOf tables (b .holders) m o)
+    unfolding lookedOf refusedOf
+    looked (Event name time) = look (leb 64 name) refl
+      where
+        look : (x : Bool) → leb 64 name ≡ x → Alike (S .rules) (orRefuse (S .rules) model (J.event name time) (refusal (model .latest) (model .taken) (J.event name time))) (cond x (record { monitor = m; answer = Refused 12 }) (takenOf tables m (getD (b .holders) name 0) name time))
+        look true q = rw q (record { answer = refl; represents = rep })
+        look false q = named-right (J.event name time) (getD (b .holders) name 0) name time (leb-false 64 name q) refl q (λ r. isIn name (namesOf (ruleAt (S .rules) r))) (λ r. looks .holders name r (leb-false 64 name q)) (λ r h st. refl)
+    looked (Clock time) = named-right (J.clock time) 0 0 time (omega arith) refl refl (λ r. false) (λ r. member-empty r ∙ sym (and-false (ltb r (length (S .rules))))) (λ r h st. refl)
+
+  -- a stopped book gives its verdict again
+  pub alike : (model : M.Monitor) (m : Monitor) → Represents (S .rules) model m → (o : Observation) → Alike (S .rules) (observe (S .rules) model (seen o)) (observeOf tables (b .holders) m o)
+  unfolding observeOf
+  alike model m rep o = subst (λ (v : Verdict). Alike (S .rules) (orStopped (S .rules) model (seen o) v) (observeOf tables (b .holders) m o)) (rep .verdict′) (look (eqb (m .verdict) 2) refl (eqb (m .verdict) 1))
+    where
+      look : (x : Bool) → eqb (m .verdict) 2 ≡ x → (y : Bool) → Alike (S .rules) (orStopped (S .rules) model (seen o) (cond x (brokenAt (m .taken) (m .mask)) (cond y (someOpen (m .mask)) allWhole))) (cond x (record { monitor = m; answer = Broken (m .taken) (m .mask) }) (lookedOf tables (b .holders) m o))
+      look true q y = record { answer = refl; represents = rep }
+      look false q true = looked model m rep q o
+      look false q false = looked model m rep q o
+
+-- ---- the promise
+
+pub rules-formed : (S : Sheet) → WellFormedSheet S → Each WellFormed (S .rules)
+rules-formed S w = go (S .rules) (w .rules)
+  where
+    go : (rs : List Rule) → Each (WellFormedRule (S .outputs)) rs → Each WellFormed rs
+    go [] h = tt
+    go (r ∷ rs) h = (h .0 .formed, go rs (h .1))
+
+module _ (S : Sheet) (k : Kept) (b : Book) (m : Monitor) (f : Follows S k b m) (o : Observation) (oracle : Oracle) (right : Right (S .rules) oracle) where
+  abbrev r : Observed
+  r = observeOf (record { heads = b .heads; fragments = b .fragments; names = b .names; ranges = b .ranges }) (b .holders) m o
+
+  abbrev turn : J.Turn
+  turn = judge oracle k (seen o)
+
+  mine : Right (S .rules) (modelOracle (S .rules))
+  mine = right-oracle (S .rules) (rules-formed S (f .formed))
+
+  turn-is : judge (modelOracle (S .rules)) k (seen o) ≡ judge oracle k (seen o)
+  turn-is = one-turn (S .rules) (modelOracle (S .rules)) oracle mine right k (seen o) (f .falls) .is
+
+  both : Alike (S .rules) (observe (S .rules) (f .model) (seen o)) (observeOf (record { heads = b .heads; fragments = b .fragments; names = b .names; ranges = b .ranges }) (b .holders) m o)
+  both = alike S (f .formed) b (f .looks) (f .model) m (f .represents) o
+
+  pub observe-answers : said (r .answer) ≡ judge oracle k (seen o) .answer
+  observe-answers = both .answer ∙ together (S .rules) k (f .model) (f .follows) (seen o) .answer ∙ ap (λ (t : J.Turn). t .answer) turn-is
+
+  pub observe-follows : Follows S (judge oracle k (seen o) .kept) b (r .monitor)
+  observe-follows = record {
+    formed = f .formed;
+    looks = f .looks;
+    falls = one-turn (S .rules) oracle (modelOracle (S .rules)) right mine k (seen o) (f .falls) .falls;
+    model = observe (S .rules) (f .model) (seen o) .monitor;
+    follows = subst (λ (t : J.Turn). A.Follows (S .rules) (t .kept) (observe (S .rules) (f .model) (seen o) .monitor)) turn-is (together (S .rules) k (f .model) (f .follows) (seen o) .follows);
+    represents = both .represents;
+  }
+
+-- a refused observation gives back the same monitor, whatever the book and the monitor
+taken-unchanged : (t : Tables) (m : Monitor) (concerned name time n : ℕ) → said (takenOf t m concerned name time .answer) ≡ J.refused n → takenOf t m concerned name time .monitor ≡ m
+unfolding takenOf refusedOf
+taken-unchanged t m concerned name time n e = look (ltb time (m .latest)) (leb 4294967295 (m .taken)) e
+  where
+    P : Pass
+    P = passOf t concerned (m .mask) (m .dues) (m .rules) name time
+
+    never : (x y : Bool) → said (judgedBy x y P (m .taken + 1) time .answer) ≡ J.refused n → ⊥
+    never true true c = let w : _≡_ {A = ℕ} 0 1 = cc in zero-one w
+    never true false c = let w : _≡_ {A = ℕ} 0 1 = cc in zero-one w
+    never false y c = let w : _≡_ {A = ℕ} 0 1 = cc in zero-one w
+
+    look : (x y : Bool) → said (cond {A = Observed} x (record { monitor = m; answer = Refused 11 }) (cond y (record { monitor = m; answer = Refused 13 }) (judgedOf P (m .taken + 1) time)) .answer) ≡ J.refused n → cond {A = Observed} x (record { monitor = m; answer = Refused 11 }) (cond y (record { monitor = m; answer = Refused 13 }) (judgedOf P (m .taken + 1) time)) .monitor ≡ m
+    look true y c = refl
+    look false true c = refl
+    look false false c = absurd (never (eqb (P .broken) 0) (eqb (P .opens) 0) (ap (λ (r : Observed). said (r .answer)) (sym (judged-is P (m .taken + 1) time)) ∙ c))
+
+looked-unchanged : (t : Tables) (holders : List ℕ) (m : Monitor) (o : Observation) (n : ℕ) → said (lookedOf t holders m o .answer) ≡ J.refused n → lookedOf t holders m o .monitor ≡ m
+unfolding lookedOf refusedOf
+looked-unchanged t holders m (Event name time) n e = look (leb 64 name) e
+  where
+    look : (x : Bool) → said (cond {A = Observed} x (record { monitor = m; answer = Refused 12 }) (takenOf t m (getD holders name 0) name time) .answer) ≡ J.refused n → cond {A = Observed} x (record { monitor = m; answer = Refused 12 }) (takenOf t m (getD holders name 0) name time) .monitor ≡ m
+    look true c = refl
+    look false c = taken-unchanged t m (getD holders name 0) name time n c
+looked-unchanged t holders m (Clock time) n e = taken-unchanged t m 0 0 time n e
+
+pub observe-unchanged : (t : Tables) (holders : List ℕ) (m : Monitor) (o : Observation) (n : ℕ) → said (observeOf t holders m o .answer) ≡ J.refused n → observeOf t holders m o .monitor ≡ m
+unfolding observeOf
+observe-unchanged t holders m o n e = look (eqb (m .verdict) 2) e
+  where
+    look : (x : Bool) → said (cond {A = Observed} x (record { monitor = m; answer = Broken (m .taken) (m .mask) }) (lookedOf t holders m o) .answer) ≡ J.refused n → cond {A = Observed} x (record { monitor = m; answer = Broken (m .taken) (m .mask) }) (lookedOf t holders m o) .monitor ≡ m
+    look true c = refl
+    look false c = looked-unchanged t holders m o n c
+
+-- what the code's observing promises follows from its equation
+pub promise : (b : Book) (m : Monitor) (o : Observation) (r : Observed) → r ≡ observeOf (record { heads = b .heads; fragments = b .fragments; names = b .names; ranges = b .ranges }) (b .holders) m o → Observes b m o r
+promise b m o r e = record {
+  answers = λ S k f oracle right. ap (λ (x : Observed). said (x .answer)) e ∙ observe-answers S k b m f o oracle right;
+  follows = λ S k f oracle right. subst (λ (x : Observed). Follows S (judge oracle k (seen o) .kept) b (x .monitor)) (sym e) (observe-follows S k b m f o oracle right);
+  unchanged = λ n c. ap (λ (x : Observed). x .monitor) e ∙ observe-unchanged (record { heads = b .heads; fragments = b .fragments; names = b .names; ranges = b .ranges }) (b .holders) m o n (ap (λ (x : Observed). said (x .answer)) (sym e) ∙ c);
+}
+
+-- the same of the arrays that the call is lent
+pub lent-promise : (heads fragments names ranges holders : List ℕ) (m : Monitor) (o : Observation) (r : Observed) → r ≡ observeOf (record { heads = heads; fragments = fragments; names = names; ranges = ranges }) holders m o → ObservesLent heads fragments names ranges holders m o r
+lent-promise heads fragments names ranges holders m o r e b l = promise b m o r (rw (l .heads′, l .fragments′, l .names′, l .ranges′, l .holders′) e)

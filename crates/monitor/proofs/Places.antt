@@ -1,0 +1,41 @@
+-- A list whose elements are changed each by its place: the change only matters at the places there are, and one element more can be changed at any place.
+-- Assumes nothing.
+use mathlib.Core.Path.{_≡_, refl, sym, ap, ap₂, _∙_}
+use mathlib.Core.List.{List, [], _∷_}
+use Prim.Native.Nat.{ℕ, zero, suc, _+_, _<_, _≤_}
+use native.Mathlib.Nat.{add-zero, zero-add}
+use native.Mathlib.Omega.{arith}
+use lib.ListN.{length, getD, set}
+use Rattle.step.specs.Upto.{mapN}
+
+module _ {A : Type 0} where
+  -- two changes that do the same from place k on
+  pub mapN-alike : (f g : ℕ → A → A) (k n : ℕ) (l : List A) → ((i : ℕ) (x : A) → k ≤ i → f i x ≡ g i x) → mapN f k n l ≡ mapN g k n l
+  mapN-alike f g k zero l e = refl
+  mapN-alike f g k (suc n) [] e = refl
+  mapN-alike f g k (suc n) (x ∷ l) e =
+      ap₂ (λ (y : A) (t : List A). y ∷ t) (e k x (omega arith)) (mapN-alike f g (suc k) n l (λ i y h. e i y (omega arith)))
+
+  -- a change that does nothing
+  pub mapN-same : (f : ℕ → A → A) (k n : ℕ) (l : List A) → ((i : ℕ) (x : A) → f i x ≡ x) → mapN f k n l ≡ l
+  mapN-same f k zero l e = refl
+  mapN-same f k (suc n) [] e = refl
+  mapN-same f k (suc n) (x ∷ l) e = ap₂ (λ (y : A) (t : List A). y ∷ t) (e k x) (mapN-same f (suc k) n l e)
+
+  set-mapN-from : (f g : ℕ → A → A) (k n i : ℕ) (l : List A) (d : A) → i < n → i < length l
+      → ((j : ℕ) (x : A) → (j ≡ k + i → ⊥) → f j x ≡ g j x) → set (mapN f k n l) i (g (k + i) (getD l i d)) ≡ mapN g k n l
+  set-mapN-from f g k zero i l d h m e = absurd (omega arith)
+  set-mapN-from f g k (suc n) i [] d h m e = absurd (omega arith)
+  set-mapN-from f g k (suc n) zero (x ∷ l) d h m e =
+      ap₂ (λ (y : A) (t : List A). y ∷ t) (ap (λ (j : ℕ). g j x) (add-zero k)) (mapN-alike f g (suc k) n l (λ i y a. e i y (λ p. omega arith)))
+  set-mapN-from f g k (suc n) (suc i) (x ∷ l) d h m e =
+      let j : k + suc i ≡ suc k + i = omega arith in
+      ap₂ (λ (y : A) (t : List A). y ∷ t) (e k x (λ p. omega arith))
+      (ap (λ (j : ℕ). set (mapN f (suc k) n l) i (g j (getD l i d))) j
+      ∙ set-mapN-from f g (suc k) n i l d (omega arith) (omega arith) (λ j y q. e j y (λ p. q (omega arith))))
+
+  -- one element more: the change g is f but for place i
+  pub set-mapN : (f g : ℕ → A → A) (n i : ℕ) (l : List A) (d : A) → i < n → i < length l
+      → ((j : ℕ) (x : A) → (j ≡ i → ⊥) → f j x ≡ g j x) → set (mapN f 0 n l) i (g i (getD l i d)) ≡ mapN g 0 n l
+  set-mapN f g n i l d h m e =
+      ap (λ (j : ℕ). set (mapN f 0 n l) i (g j (getD l i d))) (sym (zero-add i)) ∙ set-mapN-from f g 0 n i l d h m (λ j y q. e j y (λ p. q (omega arith)))

@@ -1,0 +1,123 @@
+-- What observing promises. `Follows` is the one relation that callers keep: a monitor follows what the judge keeps, under the book of a well-formed sheet. Its parts are this crate's own.
+-- Assumes nothing.
+use mathlib.Core.Path.{_≡_}
+use mathlib.Core.Bool.{Bool, true, false, cond, _&&_}
+use mathlib.Core.List.{List, [], _∷_, map}
+use Prim.Native.Nat.{ℕ, _<_}
+use lib.Dec.{ltb, eqb}
+use lib.ListN.{length, getD}
+use Rattle.names.specs.Names.{member}
+use Rattle.pattern.specs.Meaning.{Rule}
+use Rattle.pattern.specs.Judge.{NeverFalls, Oracle, Right, Verdict, allWhole, someOpen, brokenAt, verdictOf, mask, isOpen, Kept, nothing, judge, judgeAnswers, judgeKeeps}
+use Rattle.pattern.specs.Judge as J
+use Rattle.pattern.specs.Model.{statuses}
+use Rattle.pattern.specs.Model as M
+use Rattle.pattern.proofs.Agreement as A
+use Rattle.sheet.specs.Layout.{Sheet, WellFormedSheet}
+use Rattle.sheet.specs.Pages.{ruleAt}
+use Rattle.book.specs.Looks.{Looks}
+use Rattle.book.specs.declared.Book.{Book}
+use Rattle.step.specs.Steps.{Tables}
+use Rattle.step.specs.Decode.{decode}
+use Rattle.step.proofs.Status.{running}
+use Rattle.step.proofs.Links.{Stands}
+use Rattle.monitor.specs.Pass.{noState}
+use Rattle.monitor.specs.declared.Monitor.{Monitor}
+use Rattle.monitor.specs.declared.Observation.{Observation}
+use Rattle.monitor.specs.declared.Observation.the-variants.{Event, Clock}
+use Rattle.monitor.specs.declared.Answer.{Answer}
+use Rattle.monitor.specs.declared.Answer.the-variants.{Whole, Open, Broken, Refused}
+use Rattle.monitor.specs.declared.Observed.{Observed}
+
+-- ---- this paper's values for each case of an answer and an observation
+
+abbrev pub said : Answer → J.Answer
+said Whole = J.verdict allWhole
+said (Open m) = J.verdict (someOpen m)
+said (Broken k m) = J.verdict (brokenAt k m)
+said (Refused n) = J.refused n
+
+abbrev pub seen : Observation → J.Observation
+seen (Event name time) = J.event name time
+seen (Clock time) = J.clock time
+
+-- the verdict that a monitor holds: 2 is broken, at the last observation taken; 1 is open
+abbrev pub verdictIn : Monitor → Verdict
+verdictIn m = cond (eqb (m .verdict) 2) (brokenAt (m .taken) (m .mask)) (cond (eqb (m .verdict) 1) (someOpen (m .mask)) allWhole)
+
+-- an answer says the verdict that a monitor holds
+abbrev pub Says : Answer → Monitor → Type 0
+Says a m = said a ≡ J.verdict (verdictIn m)
+
+-- ---- a monitor's numbers, and the state of the model that they stand for
+
+-- the state of rule r
+abbrev pub modelAt : List M.RuleState → ℕ → M.RuleState
+modelAt sts r = getD sts r (decode noState)
+
+pub record Represents (rules : List Rule) (model : M.Monitor) (m : Monitor) : Type 0 where
+  pub sixteen : length (m .rules) ≡ 16
+  pub many : length (model .rules) ≡ length rules
+  pub state : (r : ℕ) → r < length rules → decode (getD (m .rules) r noState) ≡ modelAt (model .rules) r
+  pub stands : (r : ℕ) → r < length rules → Stands (ruleAt rules r) (getD (m .rules) r noState)
+  pub time : m .latest ≡ model .latest
+  pub count : m .taken ≡ model .taken
+  pub verdict′ : verdictIn m ≡ model .verdict
+  pub settled : model .verdict ≡ verdictOf (model .taken) (statuses rules (model .rules) (model .latest))
+  -- the two masks are caches: bit r is a function of rule r's state. After a break they say nothing
+  pub opens : eqb (m .verdict) 2 ≡ false → m .mask ≡ mask isOpen (statuses rules (model .rules) (model .latest))
+  pub due : eqb (m .verdict) 2 ≡ false → (r : ℕ) → member (m .dues) r ≡ (ltb r (length rules) && running (ruleAt rules r) (modelAt (model .rules) r))
+
+-- ---- the relation
+
+-- the monitor follows the judge's kept list and verdict, under the book of the sheet
+pub record Follows (S : Sheet) (k : Kept) (b : Book) (m : Monitor) : Type 0 where
+  pub formed : WellFormedSheet S
+  pub looks : Looks S b
+  pub falls : NeverFalls 0 (k .taken)
+  pub model : M.Monitor
+  pub follows : A.Follows (S .rules) k model
+  pub represents : Represents (S .rules) model m
+
+-- ---- the promise
+
+-- one observation: the judge's next answer, and the monitor follows what the judge then keeps; a refused observation gives back an equal monitor. Of a book and a monitor that follow no
+-- judge's list nothing is promised but that the call returns
+pub record Observes (b : Book) (m : Monitor) (o : Observation) (r : Observed) : Type 0 where
+  pub answers : (S : Sheet) (k : Kept) → Follows S k b m → (oracle : Oracle) → Right (S .rules) oracle → said (r .answer) ≡ judge oracle k (seen o) .answer
+  pub follows : (S : Sheet) (k : Kept) → Follows S k b m → (oracle : Oracle) → Right (S .rules) oracle → Follows S (judge oracle k (seen o) .kept) b (r .monitor)
+  pub unchanged : (n : ℕ) → said (r .answer) ≡ J.refused n → r .monitor ≡ m
+
+-- the arrays that a call is lent are this book's
+pub record Lends (heads fragments names ranges holders : List ℕ) (b : Book) : Type 0 where
+  pub heads′ : b .heads ≡ heads
+  pub fragments′ : b .fragments ≡ fragments
+  pub names′ : b .names ≡ names
+  pub ranges′ : b .ranges ≡ ranges
+  pub holders′ : b .holders ≡ holders
+
+-- the call: of whatever book the arrays are
+abbrev pub ObservesLent : List ℕ → List ℕ → List ℕ → List ℕ → List ℕ → Monitor → Observation → Observed → Type 0
+ObservesLent heads fragments names ranges holders m o r = (b : Book) → Lends heads fragments names ranges holders b → Observes b m o r
+
+-- a fresh monitor follows the judge that has kept nothing
+abbrev pub Freshes : List ℕ → Monitor → Type 0
+Freshes fragments m = (S : Sheet) (b : Book) → WellFormedSheet S → Looks S b → b .fragments ≡ fragments → Follows S nothing b m
+
+-- ---- a run of calls
+
+-- one observation after the other, each on what the last one left; `Observes` is all that the call promises
+pub data Run (b : Book) : Monitor → List Observation → List Answer → Monitor → Type 0 where
+  done : {m : Monitor} → Run b m [] [] m
+  more : {m last : Monitor} {o : Observation} {os : List Observation} {as′ : List Answer} {r : Observed} → Observes b m o r → Run b (r .monitor) os as′ last → Run b m (o ∷ os) (r .answer ∷ as′) last
+
+-- demand 3 for such a run: the judge's answers in order, the length of its list, and its verdict
+pub record RunAgrees (S : Sheet) (os : List Observation) (as′ : List Answer) (m : Monitor) (oracle : Oracle) : Type 0 where
+  pub answered : map said as′ ≡ judgeAnswers oracle nothing (map seen os)
+  pub taken : m .taken ≡ length (judgeKeeps oracle nothing (map seen os) .taken)
+  pub verdict : verdictIn m ≡ judgeKeeps oracle nothing (map seen os) .verdict
+
+pub record CodeAgreement (S : Sheet) (os : List Observation) (as′ : List Answer) (m : Monitor) : Type 0 where
+  -- a judge exists, and with every one of them the run agrees
+  pub judged : (oracle : Oracle) × Right (S .rules) oracle
+  pub agrees : (oracle : Oracle) → Right (S .rules) oracle → RunAgrees S os as′ m oracle
