@@ -1,0 +1,283 @@
+"""Sheets for the cases: a writer of sheet bytes that remembers its fields, random rules, and faults.
+
+A fault is one field of a sound sheet with a value that one refusal names. What the reader must say
+of it follows from the fault itself: the refusal's number at the field's offset.
+"""
+
+from collections import namedtuple
+
+from guard import Fragment, Range, Rule, Sheet, names_of
+
+# what: the field's kind. rule: the rule it stands in (None in the header). used: the names that the
+# rule has before this field. low: for a v, the u before it.
+Field = namedtuple('Field', 'at size what rule used low')
+
+
+class Dice:
+    """Choices from one stream of numbers in [0, 1), so that every Python gives the same ones."""
+
+    def __init__(self, random):
+        self.random = random
+
+    def below(self, n):
+        return int(self.random() * n)
+
+    def between(self, low, high):
+        return low + self.below(high - low + 1)
+
+    def chance(self, p):
+        return self.random() < p
+
+    def pick(self, items):
+        return items[self.below(len(items))]
+
+    def shuffled(self, items):
+        out = list(items)
+        for i in range(len(out) - 1, 0, -1):
+            j = self.below(i + 1)
+            out[i], out[j] = out[j], out[i]
+        return out
+
+
+# ---------------------------------------------------------------------------------------------
+# Writing a sheet
+# ---------------------------------------------------------------------------------------------
+
+class Writer:
+    def __init__(self):
+        self.data, self.fields = bytearray(), []
+
+    def put(self, value, size, what, rule=None, used=(), low=0):
+        self.fields.append(Field(len(self.data), size, what, rule, frozenset(used), low))
+        self.data += value.to_bytes(size, 'little')
+
+
+def written(sheet):
+    """The bytes of a sheet and the list of its fields."""
+    w = Writer()
+    w.put(int.from_bytes(b'LOB', 'little'), 3, 'mark')
+    w.put(1, 2, 'version')
+    w.put(sheet.outputs, 8, 'outputs')
+    w.put(len(sheet.rules), 1, 'rule count')
+    for rule in sheet.rules:
+        timed = rule.kind == 2
+        w.put(rule.kind, 1, 'kind', rule)
+        w.put(len(rule.p), 1, 'P count', rule)
+        w.put(len(rule.q), 1, 'Q count' if timed else 'zero Q count', rule)
+        w.put(rule.trigger, 1, 'zero trigger' if timed else 'trigger', rule)
+        w.put(rule.t, 4, 't' if timed else 'zero t', rule)
+        used = set() if timed else {rule.trigger}
+        for part, ordering in (('P', rule.p), ('Q', rule.q)):
+            for fragment in ordering:
+                w.put(fragment.join, 1, 'join', rule)
+                w.put(len(fragment.ranges), 1, 'range count', rule)
+                for r in fragment.ranges:
+                    w.put(r.name, 1, part + ' name', rule, used)
+                    used.add(r.name)
+                    w.put(r.u, 2, 'u', rule)
+                    w.put(r.v, 2, 'v', rule, (), r.u)
+    return bytes(w.data), w.fields
+
+
+# ---------------------------------------------------------------------------------------------
+# Random rules
+# ---------------------------------------------------------------------------------------------
+
+def some_fragment(dice, names, most_ranges):
+    ranges = []
+    for _ in range(dice.pick([1, 1, 1, 2, 2, 3][:3 + most_ranges])):
+        if names:
+            u = dice.pick([1, 1, 1, 2, 2, 3])
+            v = u + dice.pick([0, 0, 0, 1, 1, 2])
+            if dice.chance(0.03):
+                v = dice.pick([255, 256, 1000, 65535])
+            if dice.chance(0.01):
+                u = v
+            ranges.append(Range(names.pop(), u, v))
+    return Fragment(dice.below(2), tuple(ranges))
+
+
+def some_ordering(dice, names):
+    """One to three fragments; `names` is used up from its end."""
+    out = []
+    for _ in range(dice.pick([1, 1, 1, 1, 2, 2, 3])):
+        if names:
+            out.append(some_fragment(dice, names, 3))
+    return tuple(out)
+
+
+def some_rule(dice, pool, outputs, kind):
+    """A rule on names of the pool, which has at least two inputs and two outputs."""
+    inputs = dice.shuffled([n for n in pool if not outputs >> n & 1])
+    plugin = dice.shuffled([n for n in pool if outputs >> n & 1])
+    if kind == 2:
+        q = some_ordering(dice, plugin if len(plugin) < 3 else plugin[:dice.between(1, len(plugin) - 1)])
+        left = set(plugin) - {r.name for fragment in q for r in fragment.ranges}
+        p = some_ordering(dice, dice.shuffled(inputs + sorted(left)))
+        return Rule(2, p, q, 0, dice.pick([0, 1, 2, 3, 5, 10, 10, 100, 4294967295]))
+    trigger = inputs.pop()
+    return Rule(kind, some_ordering(dice, dice.shuffled(inputs + plugin)), (), trigger, 0)
+
+
+def other_bounds(dice, r):
+    u = max(1, r.u + dice.pick([-1, 0, 0, 1]))
+    return r._replace(u=u, v=max(u, min(65535, r.v + dice.pick([-1, 0, 1]))))
+
+
+def variant(dice, rule):
+    """A rule on the same names in the same places, so that one log goes some way through both."""
+    def ordering(fragments):
+        return tuple(Fragment(f.join ^ dice.chance(0.2), tuple(other_bounds(dice, r) for r in f.ranges))
+                     for f in fragments)
+    kind = rule.kind if rule.kind == 2 or dice.chance(0.5) else 1 - rule.kind
+    t = dice.pick([rule.t, 0, 1, 5, 10]) if kind == 2 else 0
+    return Rule(kind, ordering(rule.p), ordering(rule.q), rule.trigger, t)
+
+
+def some_pool(dice, size):
+    """Names for one or more rules, and the set of outputs: about half of them, two at least."""
+    names = dice.shuffled([0, 1, 2, 63, 62, 31, 32] + list(range(3, 31)) + list(range(33, 62)))
+    if dice.chance(0.5):
+        names = dice.shuffled(range(size)) + [63]
+    pool = names[:size]
+    outputs = 0 if dice.chance(0.5) else dice.below(1 << 32) | dice.below(1 << 32) << 32
+    for i, name in enumerate(pool):
+        bit = 1 << name
+        outputs = outputs | bit if i % 2 == 0 else outputs & ~bit
+    return pool, outputs
+
+
+def some_kind(dice):
+    return dice.pick([0, 1, 1, 2, 2, 2])
+
+
+def some_sheet(dice, shared):
+    """One to four rules. If shared, they have names in common: two to four variants of one rule, or
+    rules on one small pool of names. Else no name is in two rules."""
+    count = dice.pick([1, 1, 1, 1, 2, 2, 3, 4])
+    if shared:
+        pool, outputs = some_pool(dice, dice.pick([4, 6, 8, 12]))
+        rules = [some_rule(dice, pool, outputs, some_kind(dice)) for _ in range(count)]
+        if dice.chance(0.7):
+            rules = rules[:1] + [variant(dice, rules[0]) for _ in range(max(1, count - 1))]
+        rules = dice.shuffled(rules)
+    else:
+        pool, outputs = some_pool(dice, 12 * count)
+        rules = [some_rule(dice, pool[12 * i:12 * i + 12], outputs, some_kind(dice)) for i in range(count)]
+    return Sheet(outputs, tuple(rules))
+
+
+def largest_sheet():
+    """Sixteen rules of kind 2, each with sixteen fragments and all 64 names: 5,774 bytes."""
+    def ordering(first):
+        return tuple(Fragment(i % 2, tuple(Range(first + 4 * i + j, 1, 1 + j) for j in range(4))) for i in range(8))
+    rule = Rule(2, ordering(0), ordering(32), 0, 7)
+    return Sheet((1 << 64) - (1 << 32), (rule,) * 16)
+
+
+# ---------------------------------------------------------------------------------------------
+# Faults
+# ---------------------------------------------------------------------------------------------
+
+def outside(low, high):
+    """Values of a byte outside low to high, those next to it among them."""
+    def value(dice, sheet, field):
+        near = [x for x in (low - 1, high + 1, 255) if 0 <= x <= 255]
+        return dice.pick(near) if dice.chance(0.6) else dice.pick([x for x in range(256) if not low <= x <= high])
+    return value
+
+
+def one_of(*values):
+    def value(dice, sheet, field):
+        return dice.pick(values)
+    return value
+
+
+def above_63(dice, sheet, field):
+    return dice.pick([64, 65, 70, 127, 128, 200, 255])
+
+
+def other_mark(dice, sheet, field):
+    mark = bytearray(b'LOB')
+    mark[dice.below(3)] ^= 1 << dice.below(8)
+    return int.from_bytes(mark, 'little')
+
+
+def too_small(dice, sheet, field):
+    return dice.pick([0, field.low - 1, dice.below(field.low)])
+
+
+def in_rule(dice, sheet, field):
+    return dice.pick(sorted(field.used)) if field.used else None
+
+
+def an_output(dice, sheet, field):
+    names = [n for n in range(64) if sheet.outputs >> n & 1]
+    return dice.pick(names) if names else None
+
+
+def an_input(dice, sheet, field):
+    """An input that the rule does not have already: with one it has, 8 would come first."""
+    names = [n for n in range(64) if not sheet.outputs >> n & 1 and n not in names_of(field.rule)]
+    return dice.pick(names) if names else None
+
+
+# refusal, kind of field, a value that the refusal names (None where the sheet has no such value)
+FAULTS = [
+    (2, 'mark', other_mark),
+    (3, 'version', one_of(0, 2, 256, 257, 65535)),
+    (4, 'rule count', outside(1, 16)),
+    (4, 'kind', outside(0, 2)),
+    (4, 'P count', outside(1, 8)),
+    (4, 'Q count', outside(1, 8)),
+    (4, 'join', outside(0, 1)),
+    (4, 'range count', outside(1, 8)),
+    (5, 'zero Q count', one_of(1, 2, 8, 9, 255)),
+    (5, 'zero trigger', one_of(1, 2, 63, 64, 70, 255)),
+    (5, 'zero t', one_of(1, 10, 256, 65536, 1 << 24, 4294967295)),
+    (6, 'trigger', above_63),
+    (6, 'P name', above_63),
+    (6, 'Q name', above_63),
+    (7, 'u', one_of(0)),
+    (7, 'v', too_small),
+    (8, 'P name', in_rule),
+    (8, 'Q name', in_rule),
+    (9, 'trigger', an_output),
+    (9, 'Q name', an_input),
+]
+
+
+def faulty(dice, sheet, fault):
+    """The sheet's bytes with the fault in one field, and the refusal and place due; None if it has no such field."""
+    refusal, what, value = fault
+    data, fields = written(sheet)
+    fields = [f for f in fields if f.what == what]
+    if not fields:
+        return None
+    field = dice.pick(fields)
+    new = value(dice, sheet, field)
+    if new is None:
+        return None
+    return data[:field.at] + new.to_bytes(field.size, 'little') + data[field.at + field.size:], refusal, field.at
+
+
+def twice_faulty(dice, sheet, first, second):
+    """Two faults in two fields of one sheet: the one that comes first in the file is due."""
+    one, two = faulty(dice, sheet, first), faulty(dice, sheet, second)
+    if one is None or two is None or one[2] == two[2]:
+        return None
+    sound = written(sheet)[0]
+    mixed = bytes(a if a != s else b for a, b, s in zip(one[0], two[0], sound))
+    return (mixed,) + min(one[1:], two[1:], key=lambda due: due[1])
+
+
+def truncated(dice, sheet):
+    """A sheet cut off in or before one of its fields."""
+    data, fields = written(sheet)
+    field = dice.pick(fields)
+    return data[:field.at + dice.below(field.size)], 1, field.at
+
+
+def prolonged(dice, sheet):
+    data, _ = written(sheet)
+    return data + bytes(dice.below(256) for _ in range(dice.pick([1, 1, 2, 5, 8]))), 10, len(data)
