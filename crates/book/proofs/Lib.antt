@@ -1,7 +1,6 @@
 pub mod Steps
 pub mod WordLaws
 pub mod SetLaws
-pub mod SlotLaws
 pub mod Lookups
 pub mod Injective
 pub mod Translated

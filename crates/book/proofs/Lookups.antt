@@ -17,12 +17,11 @@ use Rattle.sheet.specs.Layout.{Sheet, headerOf, WellFormedRule, WellFormedSheet
 use Rattle.sheet.specs.Pages.{headerWord, fragmentWord, rangeWord, headTable, fragmentTable, rangeTable, noRange, noRule, ruleAt, rangeAt}
 use Rattle.sheet.proofs.PageLaws.{head-at, fragment-at, range-at, round-formed, round-few, each-at}
 use Rattle.book.specs.Words.{cap, nameIn, countIn, roundIn}
-use Rattle.book.specs.Tables.{fragmentSet, nameTable, ruleSet, ruleTable, maskOf, holderTable, slotTable, namesFrom, unionFrom}
+use Rattle.book.specs.Tables.{fragmentSet, nameTable, ruleSet, ruleTable, maskOf, holderTable, namesFrom, unionFrom}
 use Rattle.book.specs.Books.{bookOf}
 use Rattle.book.specs.Looks.{LooksHead, LooksFragment, LooksRange, Looks}
 use Rattle.book.proofs.WordLaws.{looks-head, join-in, count-in, name-in, low-in, high-in}
 use Rattle.book.proofs.SetLaws.{stored-at, round-names, member-names, member-union, member-mask}
-use Rattle.book.proofs.SlotLaws.{slot-at}
 
 module _ (S : Sheet) (formed : WellFormedSheet S) where
   module _ (r : ℕ) (here : r < length (S .rules)) where
@@ -96,16 +95,6 @@ module _ (S : Sheet) (formed : WellFormedSheet S) where
         ∙ ap (λ (l : List Fragment). isIn n (orderingNames l)) (take-all (length fs) fs (omega arith))
         ∙ ap (isIn n) (round-names (ruleAt (S .rules) r))
 
-    pub slot : (f s : ℕ) → f < length (roundOf (ruleAt (S .rules) r)) → s < length (fragmentAt (ruleAt (S .rules) r) f .ranges)
-        → getD (slotTable (headTable (S .rules)) (fragmentTable (S .rules)) (rangeTable (S .rules)) (length (S .rules))) (64 * r + rangeAt (ruleAt (S .rules) r) f s .name) 0 ≡ s
-    unfolding slotTable
-    slot f s inside within =
-        let all : cap 16 (length (S .rules)) ≡ length (S .rules) = rw (le-ltb 16 (length (S .rules)) (formed .count .1)) in
-        slot-at (headTable (S .rules)) (fragmentTable (S .rules)) (rangeTable (S .rules)) (cap 16 (length (S .rules))) (replicate 1024 0) (length-replicate {A = ℕ} 1024 0)
-        r (subst (λ (n : ℕ). r < n) (sym all) here) few (roundOf (ruleAt (S .rules) r))
-        (subst Distinct (sym (round-names (ruleAt (S .rules) r))) (rule-formed .distinct)) (head .round) count (λ g i l k. range g l i k .name)
-        f s inside within (omega (arith, range-formed f inside s within .named))
-
   pub holders : (n r : ℕ) → n < 64
       → member (getD (holderTable (ruleTable (headTable (S .rules)) (nameTable (fragmentTable (S .rules)) (rangeTable (S .rules)))) (length (S .rules))) n 0) r
       ≡ (ltb r (length (S .rules)) && isIn n (namesOf (ruleAt (S .rules) r)))
@@ -133,5 +122,4 @@ module _ (S : Sheet) (formed : WellFormedSheet S) where
     fragment = λ r f h i. fragment r h f i;
     range = λ r f s h i w. range r h f i s w;
     holders = holders;
-    slot = λ r f s h i w. slot r h f s i w;
   }

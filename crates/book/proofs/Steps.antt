@@ -16,7 +16,7 @@ use Rattle.names.proofs.Sets.{insert-below}
 use Rattle.sheet.specs.Reading.{byKind}
 use Rattle.sheet.proofs.Values.{with-name}
 use Rattle.book.specs.Words.{cap, mostRanges, nameIn, kindIn, countPIn, countQIn, roundIn, countIn}
-use Rattle.book.specs.Tables.{stored, namesFrom, unionFrom, maskOf, slotsFrom, slotsOf, slotsOfAll}
+use Rattle.book.specs.Tables.{stored, namesFrom, unionFrom, maskOf}
 
 pub stored-more : (f : ℕ → ℕ) (t : List ℕ) (i : ℕ) {table : List ℕ} {x : ℕ} → table ≡ stored f i t → x ≡ f i → set table i x ≡ stored f (i + 1) t
 stored-more f t i e ex = rw (add-one, e, ex)
@@ -32,18 +32,6 @@ union-more names base i e = rw (add-one, e)
 
 pub mask-more : (sets : List ℕ) (m i : ℕ) {mask x : ℕ} → mask ≡ maskOf sets m i → x ≡ cond (member (getD sets i 0) m) (insert mask i) mask → x ≡ maskOf sets m (i + 1)
 mask-more sets m i e ex = rw (add-one, ← e) ex
-
-pub slots-more : (ranges : List ℕ) (base first i : ℕ) (t : List ℕ) {table : List ℕ} {n : ℕ} → table ≡ slotsFrom ranges base first i t → n ≡ nameIn (getD ranges (base + i) 0)
-    → set table (first + n) i ≡ slotsFrom ranges base first (i + 1) t
-slots-more ranges base first i t e en = rw (add-one, e, en)
-
-pub fragment-slots-more : (fragments ranges : List ℕ) (r i : ℕ) (t : List ℕ) {table table′ : List ℕ} {count : ℕ} → table ≡ slotsOf fragments ranges r i t
-    → count ≡ countIn (getD fragments (16 * r + i) 0) → table′ ≡ slotsFrom ranges (8 * (16 * r + i)) (64 * r) count table → table′ ≡ slotsOf fragments ranges r (i + 1) t
-fragment-slots-more fragments ranges r i t e ec et = et ∙ rw (add-one, e, ec)
-
-pub rule-slots-more : (heads fragments ranges : List ℕ) (i : ℕ) (t : List ℕ) {table table′ : List ℕ} {count : ℕ} → table ≡ slotsOfAll fragments ranges heads i t
-    → count ≡ roundIn (getD heads i 0) → table′ ≡ slotsOf fragments ranges i count table → table′ ≡ slotsOfAll fragments ranges heads (i + 1) t
-rule-slots-more heads fragments ranges i t e ec et = et ∙ rw (add-one, e, ec)
 
 -- ---- bounds
 

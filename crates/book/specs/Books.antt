@@ -7,7 +7,7 @@ use Rattle.sheet.specs.Layout.{Sheet, version}
 use Rattle.sheet.specs.Reading.{accepted, readSheet}
 use Rattle.sheet.specs.Answers.{answerOf, pagesOf}
 use Rattle.sheet.specs.declared.Pages.{Pages}
-use Rattle.book.specs.Tables.{nameTable, ruleTable, holderTable, slotTable}
+use Rattle.book.specs.Tables.{nameTable, ruleTable, holderTable}
 use Rattle.book.specs.declared.Book.{Book}
 use Rattle.book.specs.declared.Translation.{Translation}
 
@@ -22,7 +22,6 @@ bookFrom p = record {
   names = nameTable (p .fragments) (p .ranges);
   ranges = p .ranges;
   holders = holderTable (ruleTable (p .heads) (nameTable (p .fragments) (p .ranges))) (p .count);
-  slots = slotTable (p .heads) (p .fragments) (p .ranges) (p .count);
 }
 
 -- the book of a sheet

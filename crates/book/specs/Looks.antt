@@ -47,6 +47,3 @@ pub record Looks (S : Sheet) (b : Book) : Type 0 where
       → LooksRange (getD (b .ranges) (8 * (16 * r + f) + s) 0) (ruleAt (S .rules) r) f s
   -- bit r of a name's mask: rule r is there, and holds the name
   pub holders : (n r : ℕ) → n < 64 → member (getD (b .holders) n 0) r ≡ (ltb r (length (S .rules)) && isIn n (namesOf (ruleAt (S .rules) r)))
-  -- a rule's name leads to its range
-  pub slot : (r f s : ℕ) → r < length (S .rules) → f < length (roundOf (ruleAt (S .rules) r)) → s < length (fragmentAt (ruleAt (S .rules) r) f .ranges)
-      → getD (b .slots) (64 * r + rangeAt (ruleAt (S .rules) r) f s .name) 0 ≡ s

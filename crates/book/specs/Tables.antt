@@ -51,24 +51,3 @@ maskOf sets m (suc n) = cond (member (getD sets n 0) m) (insert (maskOf sets m n
 
 unfoldable pub holderTable : List ℕ → ℕ → List ℕ
 holderTable sets count = stored (λ m. maskOf sets m (cap 16 count)) 64 (replicate 64 0)
-
--- ---- where a rule's name has its range
-
--- n ranges from an index on, each stored at its name, after the rule's first place
-abbrev pub slotsFrom : List ℕ → ℕ → ℕ → ℕ → List ℕ → List ℕ
-slotsFrom ranges base first zero table = table
-slotsFrom ranges base first (suc n) table = set (slotsFrom ranges base first n table) (first + nameIn (getD ranges (base + n) 0)) n
-
-module _ (fragments ranges : List ℕ) where
-  -- n fragments, of rule r
-  abbrev pub slotsOf : ℕ → ℕ → List ℕ → List ℕ
-  slotsOf r zero table = table
-  slotsOf r (suc n) table = slotsFrom ranges (8 * (16 * r + n)) (64 * r) (countIn (getD fragments (16 * r + n) 0)) (slotsOf r n table)
-
-  -- n rules
-  abbrev pub slotsOfAll : List ℕ → ℕ → List ℕ → List ℕ
-  slotsOfAll heads zero table = table
-  slotsOfAll heads (suc n) table = slotsOf n (roundIn (getD heads n 0)) (slotsOfAll heads n table)
-
-unfoldable pub slotTable : List ℕ → List ℕ → List ℕ → ℕ → List ℕ
-slotTable heads fragments ranges count = slotsOfAll fragments ranges heads (cap 16 count) (replicate 1024 0)

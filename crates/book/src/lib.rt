@@ -6,7 +6,7 @@ ghost use lib.Dec.{eqb};
 ghost use lib.ListN.{getD};
 ghost use Rattle.names.specs.Names.{member, insert};
 ghost use Rattle.book.specs.Words.{cap, kindIn, countPIn, countQIn, triggerIn, timeIn, roundIn, joinIn, countIn, nameIn, lowIn, highIn};
-ghost use Rattle.book.specs.Tables.{namesFrom, fragmentSet, nameTable, unionFrom, ruleSet, ruleTable, maskOf, holderTable, slotsFrom, slotsOf, slotTable};
+ghost use Rattle.book.specs.Tables.{namesFrom, fragmentSet, nameTable, unionFrom, ruleSet, ruleTable, maskOf, holderTable};
 ghost use Rattle.book.specs.Books.{Translates, bookFrom};
 
 // ---- what a number of the tables holds: a rule's head
@@ -207,70 +207,6 @@ fn holder_table(sets: &[u64; 16], count: u8) -> [u16; 64]
     masks
 }
 
-// ---- where each name has its range
-
-// The ranges of fragment k of the book, of a rule whose slots start at first.
-fn slots_from(ranges: &[u64; 2048], base: usize, first: usize, count: usize, slots: &mut [u8; 1024])
-    requires { ⌜ (base + count ≤ 2048) × (first ≤ 960) × (count ≤ 8) ⌝ }
-    ensures { λ _. ⌜ now (slots .exit) ≡ slotsFrom (now (ranges .entry)) base first count (now (slots .entry)) ⌝ }
-{
-    let mut i = 0usize;
-    while i < count {
-        let n = name(ranges[base + i]) as usize;
-        slots[first + n] = i as u8;
-        i = i + 1;
-    }
-}
-
-// The fragments of rule r.
-fn slots_of<'a>(
-    fragments: &'a [u16; 256],
-    ranges: &'a [u64; 2048],
-    r: usize,
-    count: usize,
-    slots: &mut [u8; 1024],
-)
-    requires { ⌜ (r < 16) × (count ≤ 16) ⌝ }
-    ensures { λ _. ⌜ now (slots .exit) ≡ slotsOf (now (fragments .entry)) (now (ranges .entry)) r count (now (slots .entry)) ⌝ }
-{
-    let mut i = 0usize;
-    while i < count {
-        let k = 16 * r + i;
-        slots_from(
-            ranges,
-            8 * k,
-            64 * r,
-            ranges_in(fragments[k]) as usize,
-            slots,
-        );
-        i = i + 1;
-    }
-}
-
-fn slot_table<'a>(
-    heads: &'a [u64; 16],
-    fragments: &'a [u16; 256],
-    ranges: &'a [u64; 2048],
-    count: u8,
-) -> [u8; 1024]
-    ensures { λ x. ⌜ x ≡ slotTable (now (heads .entry)) (now (fragments .entry)) (now (ranges .entry)) count ⌝ }
-{
-    let n = few(count);
-    let mut slots = [0u8; 1024];
-    let mut r = 0usize;
-    while r < n {
-        slots_of(
-            fragments,
-            ranges,
-            r,
-            fragments_in_round(heads[r]) as usize,
-            &mut slots,
-        );
-        r = r + 1;
-    }
-    slots
-}
-
 // ---- the book
 
 pub struct Book {
@@ -285,9 +221,8 @@ pub struct Book {
     pub names: [u64; 256],
     // that fragment's range s at 8 (16 r + f) + s: name, u and v
     pub ranges: [u64; 2048],
-    // at name n, the mask of the rules that hold it; at 64 r + n, which range of its fragment name n of rule r has
+    // at name n, the mask of the rules that hold it
     pub holders: [u16; 64],
-    pub slots: [u8; 1024],
 }
 
 pub struct Translation {
@@ -305,7 +240,6 @@ fn book_of(pages: sheet::Pages) -> Book
     let names = name_table(&fragments, &ranges);
     let sets = rule_table(&heads, &names);
     let holders = holder_table(&sets, pages.count);
-    let slots = slot_table(&heads, &fragments, &ranges, pages.count);
     Book {
         version: 1,
         outputs: pages.outputs,
@@ -315,7 +249,6 @@ fn book_of(pages: sheet::Pages) -> Book
         names: names,
         ranges: ranges,
         holders: holders,
-        slots: slots,
     }
 }
 

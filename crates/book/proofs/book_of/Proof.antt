@@ -3,15 +3,14 @@ use mathlib.Core.Path.{_≡_}
 use mathlib.Core.List.{List}
 use Prim.Native.Nat.{ℕ}
 use Rattle.sheet.specs.declared.Pages.{Pages}
-use Rattle.book.specs.Tables.{nameTable, ruleTable, holderTable, slotTable}
+use Rattle.book.specs.Tables.{nameTable, ruleTable, holderTable}
 use Rattle.book.specs.Books.{bookFrom}
 use Rattle.book.specs.declared.Book.{Book}
 use borrow.Author.Needs.{needs}
 use Rattle.book.proofs.book_of.Statement.{statement}
 use Rattle.book.proofs.book_of.Tie as tie
 
-made : (p : Pages) {names sets holders slots : List ℕ} → names ≡ nameTable (p .fragments) (p .ranges) → sets ≡ ruleTable (p .heads) names → holders ≡ holderTable sets (p .count)
-    → slots ≡ slotTable (p .heads) (p .fragments) (p .ranges) (p .count)
+made : (p : Pages) {names sets holders : List ℕ} → names ≡ nameTable (p .fragments) (p .ranges) → sets ≡ ruleTable (p .heads) names → holders ≡ holderTable sets (p .count)
     → _≡_ {A = Book} (record {
       version = bookFrom p .version;
       outputs = bookFrom p .outputs;
@@ -21,9 +20,8 @@ made : (p : Pages) {names sets holders slots : List ℕ} → names ≡ nameTable
       names = names;
       ranges = bookFrom p .ranges;
       holders = holders;
-      slots = slots;
     }) (bookFrom p)
-made p en es eh el = rw (eh, es, en, el)
+made p en es eh = rw (eh, es, en)
 
 name-table-requires : tie.Need-name-table-requires
 name-table-requires c κs = search needs
@@ -34,11 +32,8 @@ rule-table-requires c κs = search needs
 holder-table-requires : tie.Need-holder-table-requires
 holder-table-requires c κs = search needs
 
-slot-table-requires : tie.Need-slot-table-requires
-slot-table-requires c κs = search needs
-
 returns : tie.Need-returns
-returns c = made (c .before .before .before .before .before .before .before .before .before .before .before .before .before .before .before .args .pages) (c .before .before .before .before .before .before .before .before .before .name-table .ensures) (c .before .before .before .before .before .before .rule-table .ensures) (c .before .before .before .before .holder-table .ensures) (c .slot-table .ensures)
+returns c = made (c .before .before .before .before .before .before .before .before .before .before .before .args .pages) (c .before .before .before .before .before .name-table .ensures) (c .before .before .rule-table .ensures) (c .holder-table .ensures)
 
 pub book-of-spec : {M : Type 1} → statement M
-book-of-spec = tie.close (tie.spec name-table-requires rule-table-requires holder-table-requires slot-table-requires returns)
+book-of-spec = tie.close (tie.spec name-table-requires rule-table-requires holder-table-requires returns)
