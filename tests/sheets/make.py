@@ -1,5 +1,6 @@
 #!/usr/bin/env python3
-"""Example sheets, and what is due for each: written from document 01 ("The sheet", "Where each refusal is found") and from nothing else of this repository.
+"""Example sheets, and what is due for each: the answer of the second reading in reference/, which is written from document 01 ("The sheet", "Where each refusal is
+found") and from nothing else of this repository.
 
   python3 tests/sheets/make.py          write crates/sheets/stdin (the sheets) and crates/sheets/stdout (a line for each: answer, number, place)
   python3 tests/sheets/make.py --check  say whether those two files are what would be written, and print how many sheets meet each refusal
@@ -14,99 +15,18 @@ import sys
 
 HERE = os.path.dirname(os.path.abspath(__file__))
 CRATE = os.path.join(HERE, "..", "..", "crates", "sheets")
+sys.path.insert(0, os.path.join(HERE, "..", "..", "reference"))
+
+from guard import Refused, read_sheet
 
 # ---------------------------------------------------------------- what is due
 
 
-class Refusal(Exception):
-    def __init__(self, number, place):
-        self.number, self.place = number, place
-
-
-class Bytes:
-    """The bytes, and the offset of the field that is due next."""
-
-    def __init__(self, data):
-        self.data, self.at = data, 0
-
-    def field(self, size):
-        """The field's bytes and its offset; 1 where it doesn't fit in the bytes left."""
-        place = self.at
-        if len(self.data) - place < size:
-            raise Refusal(1, place)
-        self.at += size
-        return self.data[place:place + size], place
-
-    def number(self, size):
-        raw, place = self.field(size)
-        return int.from_bytes(raw, "little"), place
-
-
-def need(right, number, place):
-    if not right:
-        raise Refusal(number, place)
-
-
-def read_fragment(b, used, outputs, of_q):
-    join, place = b.number(1)
-    need(join in (0, 1), 4, place)
-    count, place = b.number(1)
-    need(1 <= count <= 8, 4, place)
-    for _ in range(count):
-        name, place = b.number(1)
-        need(name <= 63, 6, place)
-        need(name not in used, 8, place)
-        need(not of_q or outputs >> name & 1, 9, place)
-        used.add(name)
-        u, place = b.number(2)
-        need(u != 0, 7, place)
-        v, place = b.number(2)
-        need(v >= u, 7, place)
-
-
-def read_rule(b, outputs):
-    kind, place = b.number(1)
-    need(kind in (0, 1, 2), 4, place)
-    in_p, place = b.number(1)
-    need(1 <= in_p <= 8, 4, place)
-    in_q, place = b.number(1)
-    if kind == 2:
-        need(1 <= in_q <= 8, 4, place)
-    else:
-        need(in_q == 0, 5, place)
-    used = set()
-    trigger, place = b.number(1)
-    if kind == 2:
-        need(trigger == 0, 5, place)
-    else:
-        need(trigger <= 63, 6, place)
-        need(not outputs >> trigger & 1, 9, place)
-        used.add(trigger)
-    t, place = b.number(4)
-    if kind != 2:
-        need(t == 0, 5, place)
-    for _ in range(in_p):
-        read_fragment(b, used, outputs, False)
-    for _ in range(in_q):
-        read_fragment(b, used, outputs, True)
-
-
 def due(data):
     """(answer, number, place) of some bytes."""
-    b = Bytes(data)
     try:
-        mark, place = b.field(3)
-        need(mark == bytes.fromhex("4C4F42"), 2, place)
-        version, place = b.number(2)
-        need(version == 1, 3, place)
-        outputs, place = b.number(8)
-        count, place = b.number(1)
-        need(1 <= count <= 16, 4, place)
-        for _ in range(count):
-            read_rule(b, outputs)
-        if b.at < len(data):
-            raise Refusal(10, b.at)
-    except Refusal as r:
+        read_sheet(data)
+    except Refused as r:
         return 3, r.number, r.place
     return 0, 0, 0
 

@@ -1,18 +1,17 @@
 -- A book tells its sheet: two well-formed sheets with the same book are the same. All that a sheet says is looked up in its book, and so is the same in both.
 -- Assumes nothing.
 use mathlib.Core.Path.{_≡_, refl, ap, ap₂, sym, subst, _∙_}
-use mathlib.Core.List.{List, [], _∷_, _++_}
-use Prim.Native.Nat.{ℕ, _+_, _*_, _<_}
+use mathlib.Core.List.{List}
+use Prim.Native.Nat.{ℕ, _<_}
 use native.Mathlib.Omega.{arith}
-use lib.ListN.{length, getD, take, drop}
+use lib.ListN.{length, take, drop}
 use lib.Seq.{ext-getD, take-append-seam, drop-append-seam}
 use Rattle.pattern.specs.Meaning.{Range, Join, all, any, Fragment, Kind, once, repeated, timed, Rule}
 use Rattle.pattern.specs.Model.{lastFragments, roundOf, fragmentAt, noFragment}
 use Rattle.sheet.specs.Layout.{Sheet, joinNumber, kindNumber, triggerOf, timeOf, WellFormedSheet}
 use Rattle.sheet.specs.Pages.{noRange, noRule, ruleAt, rangeAt}
-use Rattle.book.specs.Words.{kindIn, countPIn, triggerIn, timeIn, roundIn, joinIn, countIn, nameIn, lowIn, highIn}
 use Rattle.book.specs.Books.{bookOf}
-use Rattle.book.specs.Looks.{LooksHead, LooksFragment, LooksRange, Looks}
+use Rattle.book.specs.Looks.{Looks}
 use Rattle.book.specs.declared.Book.{Book}
 use Rattle.book.proofs.Lookups.{looks}
 

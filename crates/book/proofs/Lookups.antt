@@ -2,21 +2,21 @@
 -- Assumes nothing.
 use mathlib.Core.Path.{_≡_, refl, ap, sym, subst, _∙_}
 use mathlib.Core.Bool.{Bool, true, false, _&&_}
-use mathlib.Core.List.{List, [], _∷_, map}
-use Prim.Native.Nat.{ℕ, _+_, _*_, _≤_, _<_}
+use mathlib.Core.List.{List}
+use Prim.Native.Nat.{ℕ, _+_, _*_, _<_}
 use native.Mathlib.Omega.{arith}
 use lib.Dec.{ltb}
-use lib.ListN.{length, getD, take, replicate, length-replicate, length-map, List·getD-map}
+use lib.ListN.{length, getD, replicate, length-map, List·getD-map}
 use lib.Seq.{take-all}
 use borrow.Author.Tests.{ltb-true, le-ltb}
-use Rattle.pattern.specs.Lists.{isIn, Distinct}
-use Rattle.pattern.specs.Meaning.{Range, Fragment, fragmentNames, orderingNames, Rule, namesOf, WellFormedRange, WellFormedFragment, WellFormed}
+use Rattle.pattern.specs.Lists.{isIn}
+use Rattle.pattern.specs.Meaning.{Range, Fragment, fragmentNames, orderingNames, namesOf, WellFormedRange, WellFormedFragment, WellFormed}
 use Rattle.pattern.specs.Model.{roundOf, fragmentAt, noFragment}
 use Rattle.names.specs.Names.{member}
-use Rattle.sheet.specs.Layout.{Sheet, headerOf, WellFormedRule, WellFormedSheet}
-use Rattle.sheet.specs.Pages.{headerWord, fragmentWord, rangeWord, headTable, fragmentTable, rangeTable, noRange, noRule, ruleAt, rangeAt}
+use Rattle.sheet.specs.Layout.{Sheet, WellFormedRule, WellFormedSheet}
+use Rattle.sheet.specs.Pages.{fragmentWord, rangeWord, headTable, fragmentTable, rangeTable, noRange, noRule, ruleAt, rangeAt}
 use Rattle.sheet.proofs.PageLaws.{head-at, fragment-at, range-at, round-formed, round-few, each-at}
-use Rattle.book.specs.Words.{cap, nameIn, countIn, roundIn}
+use Rattle.book.specs.Words.{cap, nameIn, countIn}
 use Rattle.book.specs.Tables.{fragmentSet, nameTable, ruleSet, ruleTable, maskOf, holderTable, namesFrom, unionFrom}
 use Rattle.book.specs.Books.{bookOf}
 use Rattle.book.specs.Looks.{LooksHead, LooksFragment, LooksRange, Looks}

@@ -1,16 +1,14 @@
 -- What the numbers of the tables hold: a well-formed part is read off its word.
 -- Assumes nothing.
-use mathlib.Core.Path.{_≡_, refl, ap, sym, subst, _∙_}
-use mathlib.Core.Bool.{Bool, cond}
+use mathlib.Core.Path.{_≡_, sym}
 use mathlib.Core.List.{List, [], _∷_, _++_}
 use Prim.Native.Nat.{ℕ, _+_, _*_, _/_, _%_, _≤_, _<_}
 use native.Mathlib.Omega.{arith}
-use lib.Dec.{ltb, eqb}
 use lib.ListN.{length, length-append}
 use borrow.Author.Tests.{le-ltb}
 use Rattle.pattern.specs.Meaning.{Range, Join, all, any, Fragment, Kind, once, repeated, timed, Rule, WellFormedRange, WellFormedFragment, WellFormed}
-use Rattle.pattern.specs.Model.{triggerFragment, lastFragments, roundOf, fragmentAt}
-use Rattle.sheet.specs.Layout.{Header, headerOf, joinNumber, kindNumber, inQ, triggerOf, timeOf}
+use Rattle.pattern.specs.Model.{triggerFragment, lastFragments, roundOf}
+use Rattle.sheet.specs.Layout.{headerOf, joinNumber, kindNumber, inQ, triggerOf, timeOf}
 use Rattle.sheet.specs.Reading.{byKind}
 use Rattle.sheet.specs.Pages.{headerWord, fragmentWord, rangeWord}
 use Rattle.sheet.proofs.PageLaws.{round-few}

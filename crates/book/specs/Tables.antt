@@ -1,7 +1,7 @@
 -- The tables that are made of a sheet's pages, for a monitor's few look-ups: the set of names of each fragment, the rules that hold each name, and where a rule's name has its range.
 -- They are defined for all pages, those of a sheet or not.
 -- Assumes nothing.
-use mathlib.Core.Bool.{Bool, cond}
+use mathlib.Core.Bool.{cond}
 use mathlib.Core.List.{List}
 use Prim.Native.Nat.{ℕ, zero, suc, _+_, _*_}
 use lib.Bits.{bitOr}

@@ -1,12 +1,11 @@
 // The book of a sheet (document 01: "a translated sheet is a book"): all that the sheet says, in file order, and the tables that a monitor looks up at each event.
 ghost use mathlib.Core.Path.{_≡_};
 ghost use mathlib.Core.Bool.{cond};
-ghost use Prim.Native.Nat.{ℕ, _+_, _*_, _^_, _<_, _≤_};
+ghost use Prim.Native.Nat.{_+_, _*_, _<_, _≤_};
 ghost use lib.Dec.{eqb};
-ghost use lib.ListN.{getD};
 ghost use Rattle.names.specs.Names.{member, insert};
 ghost use Rattle.book.specs.Words.{cap, kindIn, countPIn, countQIn, triggerIn, timeIn, roundIn, joinIn, countIn, nameIn, lowIn, highIn};
-ghost use Rattle.book.specs.Tables.{namesFrom, fragmentSet, nameTable, unionFrom, ruleSet, ruleTable, maskOf, holderTable};
+ghost use Rattle.book.specs.Tables.{fragmentSet, nameTable, ruleSet, ruleTable, maskOf, holderTable};
 ghost use Rattle.book.specs.Books.{Translates, bookFrom};
 
 // ---- what a number of the tables holds: a rule's head

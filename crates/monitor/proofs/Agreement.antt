@@ -1,21 +1,20 @@
 -- Demand 3 for the code. A fresh monitor follows the judge that has kept nothing; one observation keeps the two together; so along every list the run of the calls answers as the judge: `agreement`.
 -- Assumes nothing.
 use mathlib.Core.Path.{_≡_, refl, sym, _∙_, ap, ap₂, subst}
-use mathlib.Core.Bool.{Bool, true, false, cond, not, _&&_, and-false}
+use mathlib.Core.Bool.{Bool, true, false, _&&_, and-false}
 use mathlib.Core.List.{List, [], _∷_, map}
-use Prim.Native.Nat.{ℕ, zero, suc, _+_, _*_, _≤_, _<_}
+use Prim.Native.Nat.{ℕ, zero, suc, _+_, _*_, _<_}
 use native.Mathlib.Nat.{not-suc-le-zero, add-zero}
 use native.Mathlib.Omega.{arith}
-use lib.Dec.{T, ltb, eqb}
+use lib.Dec.{ltb}
 use lib.ListN.{length, getD, replicate, length-append}
 use borrow.Author.Tests.{ltb-true}
-use Rattle.names.specs.Names.{member}
 use Rattle.names.proofs.Sets.{member-empty}
 use Rattle.pattern.specs.Lists.{Each}
-use Rattle.pattern.specs.Meaning.{Rule, Status, broken, whole, open′, WellFormed}
-use Rattle.pattern.specs.Judge.{Oracle, Right, allWhole, verdictOf, mask, Kept, nothing, judge, judgeAnswers, judgeKeeps}
+use Rattle.pattern.specs.Meaning.{Rule, Status, whole, WellFormed}
+use Rattle.pattern.specs.Judge.{Oracle, Right, mask, Kept, nothing, judge, judgeAnswers, judgeKeeps}
 use Rattle.pattern.specs.Judge as J
-use Rattle.pattern.specs.Recogniser.{State, notBegun}
+use Rattle.pattern.specs.Recogniser.{notBegun}
 use Rattle.pattern.specs.Model.{roundOf, fragmentAt, statuses, statusAt, atRest, freshMonitor, fresh}
 use Rattle.pattern.specs.Model as M
 use Rattle.pattern.specs.Numbers.{stateOf}
@@ -27,6 +26,7 @@ use Rattle.sheet.specs.Layout.{Sheet, WellFormedSheet, Bytes}
 use Rattle.sheet.specs.Pages.{ruleAt}
 use Rattle.sheet.specs.Reading.{accepted, readSheet}
 use Rattle.sheet.proofs.Acceptance.{accepted-is-encoded}
+use Rattle.sheet.proofs.Accepted.{rules-formed}
 use Rattle.book.specs.Words.{countIn}
 use Rattle.book.specs.Books.{Translates}
 use Rattle.book.specs.Looks.{Looks}
@@ -34,21 +34,20 @@ use Rattle.book.specs.declared.Book.{Book}
 use Rattle.book.specs.declared.Translation.{Translation}
 use Rattle.book.proofs.Translated.{translated}
 use Rattle.step.specs.declared.RuleState.{RuleState}
-use Rattle.step.specs.Upto.{mapN}
+use Rattle.step.specs.Upto.{mapN, length-mapN}
 use Rattle.step.specs.Steps.{Ranges, rangesOf, unbegunOf, zeros, freshStates}
-use Rattle.step.specs.Decode.{decode, rangesFrom, HoldsFragment}
+use Rattle.step.specs.Decode.{decode, HoldsFragment}
 use Rattle.step.proofs.Slots.{fresh-are}
 use Rattle.step.proofs.Status.{running, isTimed}
 use Rattle.step.proofs.Links.{Stands}
 use Rattle.monitor.specs.Pass.{noState}
 use Rattle.monitor.specs.Observe.{freshRule, freshOf}
-use Rattle.monitor.specs.Promise.{said, seen, verdictIn, modelAt, Represents, Follows, Observes, Freshes, Run, done, more, RunAgrees, CodeAgreement}
+use Rattle.monitor.specs.Promise.{said, seen, verdictIn, modelAt, Represents, Follows, Freshes, Run, done, more, RunAgrees, CodeAgreement}
 use Rattle.monitor.specs.declared.Monitor.{Monitor}
 use Rattle.monitor.specs.declared.Observation.{Observation}
 use Rattle.monitor.specs.declared.Answer.{Answer}
 use Rattle.monitor.proofs.Holding.{rule-formed, holds-rule}
-use Rattle.monitor.proofs.Taking.{getD-mapN, length-mapN}
-use Rattle.monitor.proofs.Observing.{rules-formed}
+use Rattle.monitor.proofs.Taking.{getD-mapN}
 
 -- ---- the fresh monitor
 
@@ -101,8 +100,8 @@ module _ (S : Sheet) (formed : WellFormedSheet S) (b : Book) (looks : Looks S b)
     time = refl;
     count = refl;
     verdict′ = refl;
-    settled = sym (rw (whole-mask J.isBroken refl (S .rules) (rules-formed S formed) 0, whole-mask J.isOpen refl (S .rules) (rules-formed S formed) 0));
-    opens = λ z. sym (whole-mask J.isOpen refl (S .rules) (rules-formed S formed) 0);
+    settled = sym (rw (whole-mask J.isBroken refl (S .rules) (rules-formed S formed .each) 0, whole-mask J.isOpen refl (S .rules) (rules-formed S formed .each) 0));
+    opens = λ z. sym (whole-mask J.isOpen refl (S .rules) (rules-formed S formed .each) 0);
     due = λ z r. member-empty r ∙ sym (idle r);
   }
     where
@@ -153,7 +152,7 @@ module _ (S : Sheet) (b : Book) (oracle : Oracle) (right : Right (S .rules) orac
 -- for every accepted sheet's bytes and every list of observations: what reading, translating, opening and observing one after the other answers is what the judge answers
 pub agreement : (bytes : List ℕ) → Bytes bytes → (t : Translation) → Translates bytes t → (S : Sheet) → readSheet bytes ≡ accepted S
     → (m : Monitor) → Freshes (t .book .fragments) m → (os : List Observation) (as′ : List Answer) (last : Monitor) → Run (t .book) m os as′ last → CodeAgreement S os as′ last
-agreement bytes are t translates S is m freshes os as′ last run = record { judged = (modelOracle (S .rules), right-oracle (S .rules) (rules-formed S formed)); agrees = agrees }
+agreement bytes are t translates S is m freshes os as′ last run = record { judged = (modelOracle (S .rules), right-oracle (S .rules) (rules-formed S formed .each)); agrees = agrees }
   where
     formed : WellFormedSheet S
     formed = accepted-is-encoded bytes are is .formed

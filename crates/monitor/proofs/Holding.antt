@@ -2,25 +2,24 @@
 -- Assumes nothing.
 use mathlib.Core.Path.{_≡_, refl, sym, _∙_, ap, ap₂, subst}
 use mathlib.Core.List.{List, [], _∷_}
-use Prim.Native.Nat.{ℕ, zero, suc, _+_, _*_, _≤_, _<_}
+use Prim.Native.Nat.{ℕ, zero, suc, _+_, _*_, _<_}
 use native.Mathlib.Nat.{add-zero, add-suc, suc-add}
 use native.Mathlib.Omega.{arith}
 use lib.ListN.{length, getD}
-use Rattle.pattern.specs.Lists.{Distinct, Each}
-use Rattle.pattern.specs.Meaning.{Range, Join, all, any, Fragment, fragmentNames, orderingNames, Rule, namesOf, WellFormed}
+use Rattle.pattern.specs.Lists.{Distinct}
+use Rattle.pattern.specs.Meaning.{Range, Join, all, any, Fragment, fragmentNames, orderingNames, Rule, WellFormed}
 use Rattle.pattern.specs.Model.{roundOf, fragmentAt, noFragment}
 use Rattle.pattern.specs.Numbers.{joinOf}
 use Rattle.pattern.proofs.Basics.{distinct-left, distinct-right}
 use Rattle.sheet.specs.Layout.{Sheet, WellFormedSheet, WellFormedRule, joinNumber}
 use Rattle.sheet.specs.Pages.{ruleAt, noRule, noRange}
 use Rattle.sheet.proofs.PageLaws.{each-at, round-few}
-use Rattle.book.specs.Words.{countIn, joinIn, nameIn, lowIn, highIn}
-use Rattle.book.specs.Looks.{Looks, LooksFragment, LooksRange}
+use Rattle.book.specs.Looks.{Looks, LooksFragment}
 use Rattle.book.specs.declared.Book.{Book}
 use Rattle.book.proofs.SetLaws.{round-names}
 use Rattle.book.proofs.Steps.{count-small}
 use Rattle.step.specs.Steps.{Ranges, wordAt, planOf, rangesOf}
-use Rattle.step.specs.Decode.{rangeIn, rangesFrom, HoldsFragment, Holds}
+use Rattle.step.specs.Decode.{rangeIn, rangesFrom, HoldsFragment}
 use Rattle.step.proofs.Links.{Rules}
 
 join-back : (j : Join) → joinOf (joinNumber j) ≡ j

@@ -1,21 +1,19 @@
 -- One observation over the book of a sheet answers as the judge, and the monitor then follows what the judge keeps.
 -- Assumes nothing.
 use mathlib.Core.Path.{_≡_, refl, sym, _∙_, ap, ap₂, subst}
-use mathlib.Core.Logic.{_⊎_, inl, inr, _≢_}
-use mathlib.Core.Bool.{Bool, true, false, cond, not, _&&_, _||_, and-false}
+use mathlib.Core.Bool.{Bool, true, false, cond, _&&_, and-false}
 use mathlib.Core.Option.{Option, none, some}
-use mathlib.Core.List.{List, [], _∷_}
-use Prim.Native.Nat.{ℕ, zero, suc, _+_, _≤_, _<_}
-use native.Mathlib.Numerals.{add-one}
+use mathlib.Core.List.{List}
+use Prim.Native.Nat.{ℕ, suc, _+_, _<_}
 use native.Mathlib.Omega.{arith}
-use lib.Dec.{T, leb, ltb, eqb}
+use lib.Dec.{leb, ltb, eqb}
 use lib.ListN.{length, getD}
-use borrow.Author.Tests.{leb-false, eqb-true, eqb-false, ltb-true}
+use borrow.Author.Tests.{leb-false, eqb-true}
 use Rattle.names.specs.Names.{member}
 use Rattle.names.proofs.Sets.{member-empty}
-use Rattle.pattern.specs.Lists.{Each, isIn}
-use Rattle.pattern.specs.Meaning.{Rule, namesOf, Status, broken, whole, open′, WellFormed}
-use Rattle.pattern.specs.Judge.{NeverFalls, Oracle, Right, Verdict, allWhole, someOpen, brokenAt, verdictOf, mask, Kept, refusal, judge}
+use Rattle.pattern.specs.Lists.{isIn}
+use Rattle.pattern.specs.Meaning.{Rule, namesOf, Status, broken, whole}
+use Rattle.pattern.specs.Judge.{Oracle, Right, Verdict, allWhole, someOpen, brokenAt, verdictOf, mask, Kept, refusal, judge}
 use Rattle.pattern.specs.Judge as J
 use Rattle.pattern.specs.Model.{statusAt, statuses, afterAll, take, orRefuse, orStopped, observe}
 use Rattle.pattern.specs.Model as M
@@ -23,8 +21,9 @@ use Rattle.pattern.proofs.Basics.{zero-one}
 use Rattle.pattern.proofs.Oracle.{modelOracle, right-oracle, one-turn}
 use Rattle.pattern.proofs.Agreement.{together}
 use Rattle.pattern.proofs.Agreement as A
-use Rattle.sheet.specs.Layout.{Sheet, WellFormedSheet, WellFormedRule}
+use Rattle.sheet.specs.Layout.{Sheet, WellFormedSheet}
 use Rattle.sheet.specs.Pages.{ruleAt}
+use Rattle.sheet.proofs.Accepted.{rules-formed}
 use Rattle.book.specs.Looks.{Looks}
 use Rattle.book.specs.declared.Book.{Book}
 use Rattle.masks.proofs.Statuses.{member-mask}
@@ -34,12 +33,11 @@ use Rattle.step.proofs.Status.{running}
 use Rattle.step.proofs.Links.{Rules}
 use Rattle.monitor.specs.Pass.{noState, passOf}
 use Rattle.monitor.specs.Observe.{judgedOf, refusedOf, takenOf, lookedOf, observeOf}
-use Rattle.monitor.specs.Promise.{said, seen, verdictIn, modelAt, Represents, Follows, Observes, Lends, ObservesLent}
+use Rattle.monitor.specs.Promise.{said, seen, verdictIn, modelAt, Represents, Follows, Observes, ObservesLent}
 use Rattle.monitor.specs.declared.Pass.{Pass}
 use Rattle.monitor.specs.declared.Monitor.{Monitor}
 use Rattle.monitor.specs.declared.Observation.{Observation}
 use Rattle.monitor.specs.declared.Observation.the-variants.{Event, Clock}
-use Rattle.monitor.specs.declared.Answer.{Answer}
 use Rattle.monitor.specs.declared.Answer.the-variants.{Whole, Open, Broken, Refused}
 use Rattle.monitor.specs.declared.Observed.{Observed}
 use Rattle.monitor.proofs.Holding.{holds-rule}
@@ -202,13 +200,6 @@ module _ (S : Sheet) (formed : WellFormedSheet S) (b : Book) (looks : Looks S b)
 
 -- ---- the promise
 
-pub rules-formed : (S : Sheet) → WellFormedSheet S → Each WellFormed (S .rules)
-rules-formed S w = go (S .rules) (w .rules)
-  where
-    go : (rs : List Rule) → Each (WellFormedRule (S .outputs)) rs → Each WellFormed rs
-    go [] h = tt
-    go (r ∷ rs) h = (h .0 .formed, go rs (h .1))
-
 module _ (S : Sheet) (k : Kept) (b : Book) (m : Monitor) (f : Follows S k b m) (o : Observation) (oracle : Oracle) (right : Right (S .rules) oracle) where
   abbrev r : Observed
   r = observeOf (record { heads = b .heads; fragments = b .fragments; names = b .names; ranges = b .ranges }) (b .holders) m o
@@ -217,7 +208,7 @@ module _ (S : Sheet) (k : Kept) (b : Book) (m : Monitor) (f : Follows S k b m) (
   turn = judge oracle k (seen o)
 
   mine : Right (S .rules) (modelOracle (S .rules))
-  mine = right-oracle (S .rules) (rules-formed S (f .formed))
+  mine = right-oracle (S .rules) (rules-formed S (f .formed) .each)
 
   turn-is : judge (modelOracle (S .rules)) k (seen o) ≡ judge oracle k (seen o)
   turn-is = one-turn (S .rules) (modelOracle (S .rules)) oracle mine right k (seen o) (f .falls) .is

@@ -1,16 +1,15 @@
 -- One observation, rule by rule: a rule that has the name steps as the model's; one whose deadline runs is held to it; of any other nothing changes, not even its status. The bits of the three masks
 -- are functions of the rule's new state.
 -- Assumes nothing.
-use mathlib.Core.Path.{_≡_, refl, sym, _∙_, ap, ap₂, subst}
-use mathlib.Core.Logic.{_⊎_, inl, inr, _≢_}
+use mathlib.Core.Path.{_≡_, refl, sym, _∙_, ap}
 use mathlib.Core.Bool.{Bool, true, false, cond, not, _&&_, _||_}
-use mathlib.Core.List.{List, [], _∷_}
+use mathlib.Core.List.{List}
 use Prim.Native.Nat.{ℕ, zero, suc, _+_, _*_, _%_, _≤_, _<_}
 use native.Mathlib.Omega.{arith}
-use lib.Dec.{T, leb, ltb, eqb}
-use lib.ListN.{length, getD}
+use lib.Dec.{leb, eqb}
+use lib.ListN.{getD}
 use Rattle.names.specs.Names.{member}
-use Rattle.pattern.specs.Meaning.{Event, Rule, Status, broken, whole, open′}
+use Rattle.pattern.specs.Meaning.{Rule, broken, whole, open′}
 use Rattle.pattern.specs.Judge as J
 use Rattle.pattern.specs.Model.{step, statusAt, inTime}
 use Rattle.pattern.specs.Model as M
@@ -22,7 +21,7 @@ use Rattle.step.specs.declared.Plan.{Plan}
 use Rattle.step.specs.Steps.{Ranges, Tables, planOf, actOf, dueOf, pastOf, runsOf, completeOf, growsOf, standingOf, settledOf, rangesOf, turnOf, followsOf, seenOf, beginOf, stayOf}
 use Rattle.step.specs.Decode.{decode}
 use Rattle.step.proofs.Status.{running, time-alone, running-is}
-use Rattle.step.proofs.Links.{statusIn, Rules, Stands, Linked, acts, past-at}
+use Rattle.step.proofs.Links.{statusIn, Rules, Stands, acts, past-at}
 use Rattle.monitor.specs.Pass.{ruleOf, isBroken, isOpen, isDue}
 
 -- ---- a standing is one of four

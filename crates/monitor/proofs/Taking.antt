@@ -1,33 +1,32 @@
 -- An observation that is taken: the pass over the sixteen rules gives the model's states, and its masks are the judge's masks of the new statuses.
 -- Assumes nothing.
 use mathlib.Core.Path.{_≡_, refl, sym, _∙_, ap, ap₂, subst}
-use mathlib.Core.Logic.{_⊎_, inl, inr, _≢_}
 use mathlib.Core.Bool.{Bool, true, false, cond, not, _&&_, _||_}
 use mathlib.Core.List.{List, [], _∷_}
 use Prim.Native.Nat.{ℕ, zero, suc, _+_, _^_, _≤_, _<_}
 use native.Mathlib.Nat.{not-suc-le-zero, lt-of-lt-of-le, pow-le-pow-right}
 use native.Mathlib.Omega.{arith}
-use lib.Dec.{T, leb, ltb, eqb}
+use lib.Dec.{ltb}
 use lib.ListN.{length, getD}
 use borrow.Author.Tests.{lt-ltb, le-ltb, ltb-true, ltb-false}
 use Rattle.names.specs.Names.{member}
 use Rattle.names.proofs.Sets.{member-empty}
-use Rattle.pattern.specs.Meaning.{Event, Rule, Status, broken, whole, open′}
-use Rattle.pattern.specs.Judge.{mask, verdictOf}
+use Rattle.pattern.specs.Meaning.{Rule, Status, broken, whole}
+use Rattle.pattern.specs.Judge.{mask}
 use Rattle.pattern.specs.Judge as J
 use Rattle.pattern.specs.Model.{statusAt, afterAll, statuses, step}
 use Rattle.pattern.specs.Model as M
-use Rattle.sheet.specs.Pages.{ruleAt, noRule}
+use Rattle.sheet.specs.Pages.{ruleAt}
 use Rattle.masks.specs.Masks.{maskN}
 use Rattle.masks.proofs.Members.{same-members, maskN-below, member-maskN, member-maskN-past}
 use Rattle.masks.proofs.Statuses.{member-mask, mask-below, member-mask-past}
 use Rattle.step.specs.declared.RuleState.{RuleState}
-use Rattle.step.specs.Upto.{mapN}
+use Rattle.step.specs.Upto.{mapN, length-mapN}
 use Rattle.step.specs.Steps.{Tables, planOf}
 use Rattle.step.specs.Decode.{decode}
 use Rattle.step.proofs.Status.{running}
 use Rattle.step.proofs.Links.{Rules, Stands}
-use Rattle.monitor.specs.Pass.{noState, ruleOf, touched, stepOf, standingAt, stateAt, brokenAt, openAt, dueAt, passOf}
+use Rattle.monitor.specs.Pass.{noState, touched, stateAt, brokenAt, openAt, dueAt, passOf}
 use Rattle.monitor.specs.declared.Pass.{Pass}
 use Rattle.monitor.specs.Promise.{modelAt}
 use Rattle.monitor.proofs.Rulewise.{Ruled, ruled}
@@ -39,11 +38,6 @@ getD-mapN f d k zero l i h w = absurd (not-suc-le-zero h)
 getD-mapN f d k (suc n) [] i h w = absurd (not-suc-le-zero w)
 getD-mapN f d k (suc n) (x ∷ l) zero h w = ap (λ (j : ℕ). f j x) (omega arith)
 getD-mapN f d k (suc n) (x ∷ l) (suc i) h w = getD-mapN f d (suc k) n l i (omega arith) (omega arith) ∙ ap (λ (j : ℕ). f j (getD l i d)) (omega arith)
-
-pub length-mapN : {A : Type 0} (f : ℕ → A → A) (k n : ℕ) (l : List A) → length (mapN f k n l) ≡ length l
-length-mapN f k zero l = refl
-length-mapN f k (suc n) [] = refl
-length-mapN f k (suc n) (x ∷ l) = ap suc (length-mapN f (suc k) n l)
 
 pub after-length : (rules : List Rule) (sts : List M.RuleState) (o : J.Observation) → length sts ≡ length rules → length (afterAll rules sts o) ≡ length rules
 after-length [] sts o e = refl

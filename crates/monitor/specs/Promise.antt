@@ -1,7 +1,7 @@
 -- What observing promises. `Follows` is the one relation that callers keep: a monitor follows what the judge keeps, under the book of a well-formed sheet. Its parts are this crate's own.
 -- Assumes nothing.
 use mathlib.Core.Path.{_≡_}
-use mathlib.Core.Bool.{Bool, true, false, cond, _&&_}
+use mathlib.Core.Bool.{false, cond, _&&_}
 use mathlib.Core.List.{List, [], _∷_, map}
 use Prim.Native.Nat.{ℕ, _<_}
 use lib.Dec.{ltb, eqb}
@@ -17,7 +17,6 @@ use Rattle.sheet.specs.Layout.{Sheet, WellFormedSheet}
 use Rattle.sheet.specs.Pages.{ruleAt}
 use Rattle.book.specs.Looks.{Looks}
 use Rattle.book.specs.declared.Book.{Book}
-use Rattle.step.specs.Steps.{Tables}
 use Rattle.step.specs.Decode.{decode}
 use Rattle.step.proofs.Status.{running}
 use Rattle.step.proofs.Links.{Stands}

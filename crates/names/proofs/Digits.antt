@@ -2,7 +2,7 @@
 -- Digit 0 is the remainder by 2, and digit k + 1 is digit k of the half, so each law goes by recursion on the digit's place or on the number's half.
 -- Assumes nothing.
 use mathlib.Core.Path.{_≡_, refl, sym, ap, ap₂, _∙_}
-use mathlib.Core.Bool.{Bool, true, false, _||_, _&&_}
+use mathlib.Core.Bool.{Bool, false, _||_, _&&_}
 use Prim.Native.Nat.{ℕ, zero, suc, _+_, _*_, _/_, _%_, _^_, _<_, min, max}
 use native.Mathlib.Nat.{zero-lt-suc, mod-lt, div-eq-of-lt, div-one}
 use native.Mathlib.Numerals.{one-add}

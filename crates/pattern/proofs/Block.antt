@@ -3,15 +3,15 @@
 -- Assumes nothing.
 use mathlib.Core.Path.{_≡_, refl, sym, _∙_, ap, subst}
 use mathlib.Core.Logic.{_⊎_, inl, inr, _≢_}
-use mathlib.Core.Bool.{Bool, true, false, not}
+use mathlib.Core.Bool.{not}
 use mathlib.Core.List.{List, [], _∷_, _++_, nil≢cons, head-eq-of-cons-eq, tail-eq-of-cons-eq}
-use Prim.Native.Nat.{ℕ, zero, suc, _+_, _-_, _≤_, _<_}
+use Prim.Native.Nat.{ℕ, zero, suc, _+_, _-_, _≤_}
 use native.Mathlib.Nat.{not-suc-le-zero, le-trans, le-refl}
 use native.Mathlib.Omega.{arith}
 use lib.Dec.{T}
 use lib.ListN.{replicate}
 use Rattle.pattern.specs.Lists.{In, Distinct}
-use Rattle.pattern.specs.Meaning.{Range, Join, all, any, Fragment, Enough, AtMost, Block, Blocks, Chosen, MatchesFragment}
+use Rattle.pattern.specs.Meaning.{Range, Join, all, any, Fragment, Enough, AtMost, Blocks, Chosen, MatchesFragment}
 use Rattle.pattern.specs.Recogniser.{mayBeLeftOut}
 use Rattle.pattern.proofs.Basics.{same?}
 

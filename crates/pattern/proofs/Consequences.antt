@@ -6,11 +6,11 @@ use mathlib.Core.Option.{Option, none, some}
 use mathlib.Core.List.{List, [], _∷_, _++_, map, append-assoc, append-nil}
 use Prim.Native.Nat.{ℕ, _+_, _≤_}
 use native.Mathlib.Omega.{arith}
-use lib.Dec.{T, leb, ltb, lit≤}
+use lib.Dec.{leb, ltb, lit≤}
 use lib.ListN.{length, length-append}
 use borrow.Author.Tests.{leb-false}
-use Rattle.pattern.specs.Lists.{In, Each, isIn}
-use Rattle.pattern.specs.Meaning.{Event, Rule, namesOf, On, Rising, Matches, Continuation, Status, broken, Broken, Judged}
+use Rattle.pattern.specs.Lists.{isIn}
+use Rattle.pattern.specs.Meaning.{Event, Rule, namesOf, Matches, Continuation, Status, broken, Broken, Judged}
 use Rattle.pattern.specs.Judge.{Observation, event, clock, timeOf, own, traceOf, latest, latestFrom, NeverFalls, Oracle, Verdict, allWhole, someOpen, brokenAt, badName, refusal, Kept, nothing, unlessRefused, unlessBroken, judge, judgeKeeps}
 use Rattle.pattern.proofs.Basics.{isIn→, zero-one}
 use Rattle.pattern.proofs.Orderings.{rising-from}

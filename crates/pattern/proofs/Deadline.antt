@@ -1,16 +1,16 @@
 -- Broken: at a time from which no event of the rule's, however it goes on, leads to a match. The table of moves knows `dead`; what time adds is `pressed`: the next event has to be one that the
 -- deadline binds, and it is too late for that. Where a place is not broken, a continuation is built, all of it at the time now.
 -- Assumes nothing.
-use mathlib.Core.Path.{_≡_, refl, sym, _∙_, ap, subst}
+use mathlib.Core.Path.{_≡_, refl, subst}
 use mathlib.Core.Logic.{_⊎_, inl, inr}
-use mathlib.Core.Bool.{Bool, true, false, cond, not, _&&_}
-use mathlib.Core.List.{List, [], _∷_, _++_}
-use Prim.Native.Nat.{ℕ, zero, suc, _≤_}
+use mathlib.Core.Bool.{Bool, true, false, not, _&&_}
+use mathlib.Core.List.{List, [], _∷_}
+use Prim.Native.Nat.{ℕ, _≤_}
 use native.Mathlib.Nat.{le-refl}
-use lib.Dec.{T, eqb, eqb-refl, T-not, not-T}
+use lib.Dec.{T, eqb-refl, T-not}
 use Rattle.pattern.specs.Meaning.{Event, Rising}
-use Rattle.pattern.proofs.Basics.{both, both-l, both-r, test, is-true, is-false}
-use Rattle.pattern.proofs.Rounds.{Recogniser, Takes, Laws, Stage, Plan, Ending, again, release, Place, fresh, free, dead, at, Lang, round, timely, endOf, Until, Seq, OnNames, After, Rest, To, follows, Chain, Fits, prefix}
+use Rattle.pattern.proofs.Basics.{both-l, both-r, test, is-true, is-false}
+use Rattle.pattern.proofs.Rounds.{Recogniser, Takes, Laws, Stage, Plan, Ending, again, release, Place, fresh, free, dead, at, Lang, timely, endOf, Until, OnNames, After, Rest, To, follows, Chain, Fits, prefix}
 
 module _ (X : Recogniser) (L : Laws X) (π : Plan X) where
   abbrev inTime : ℕ → ℕ → Bool

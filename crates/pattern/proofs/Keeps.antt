@@ -1,19 +1,16 @@
 -- The state of a rule as the model keeps it (fragment number, eight states, one count, the end of P) stands for a place of the plan, and one event moves both alike.
 -- Assumes nothing.
-use mathlib.Core.Path.{_≡_, refl, sym, _∙_, ap, subst}
+use mathlib.Core.Path.{_≡_, refl, _∙_, ap, subst}
 use mathlib.Core.Logic.{_⊎_, inl, inr, _≢_}
-use mathlib.Core.Bool.{Bool, true, false, cond, not, _&&_, _||_}
-use mathlib.Core.List.{List, [], _∷_, _++_, map, nil≢cons, append-nil}
-use Prim.Native.Nat.{ℕ, zero, suc, _+_, _≤_, _<_}
-use native.Mathlib.Nat.{not-suc-le-zero}
-use native.Mathlib.Omega.{arith}
-use lib.Dec.{T, leb, ltb, eqb, T-not, not-T}
-use lib.ListN.{length, getD, drop, replicate}
-use Rattle.pattern.specs.Lists.{In, isIn, allOf, anyOf}
-use Rattle.pattern.specs.Meaning.{Event, Range, Join, Fragment, fragmentNames, Rule}
-use Rattle.pattern.specs.Recogniser.{State, idle, unbegun, waiting, counting, done, error, Class, own, sibling, next, other, hasEnough, hasRoom, mayBeLeftOut, move, isIdle, isUnbegun, isError, Slot, slots, moves, counts, within, erred, complete}
-use Rattle.pattern.specs.Model.{RuleState, fragmentAt, has, following, afterP, slotsOf, released, late, classOf, moved, passes, stay, begin, step, atRest, inTime, isOnce, endAfter}
-use Rattle.pattern.proofs.Basics.{both, both-l, both-r, either, either-l, is-true, is-false, test, in-map, of-map, all→, all←, any→, any←, not-all→}
+use mathlib.Core.Bool.{Bool, true, false, cond, not}
+use mathlib.Core.List.{List, [], _∷_}
+use Prim.Native.Nat.{ℕ}
+use lib.Dec.{T, T-not, not-T}
+use Rattle.pattern.specs.Lists.{In, allOf, anyOf}
+use Rattle.pattern.specs.Meaning.{Event, Range, Join, Fragment, Rule}
+use Rattle.pattern.specs.Recogniser.{State, idle, unbegun, waiting, counting, done, error, Class, own, sibling, next, other, hasEnough, hasRoom, mayBeLeftOut, move, isIdle, isUnbegun, isError, Slot, slots, moves, counts, within, erred}
+use Rattle.pattern.specs.Model.{RuleState, fragmentAt, has, following, slotsOf, released, late, classOf, moved, passes, stay, begin, step, atRest, endAfter}
+use Rattle.pattern.proofs.Basics.{both, both-r, either, either-l, is-true, is-false, in-map, of-map, all→, all←, any→, any←, not-all→}
 use Rattle.pattern.proofs.Running.{slot, Calm, error-stays, kind}
 use Rattle.pattern.proofs.Fragment.{X, Held, Checked, slotsIn, Runs, slots-moves}
 

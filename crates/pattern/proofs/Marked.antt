@@ -6,7 +6,7 @@ use mathlib.Core.List.{List, [], _∷_, _++_}
 use Prim.Native.Nat.{ℕ}
 use lib.Dec.{T, eqb, eqb→eq}
 use lib.ListN.{length}
-use Rattle.pattern.specs.Lists.{In, allOf}
+use Rattle.pattern.specs.Lists.{In}
 use Rattle.pattern.specs.Judge.{Oracle, Right, Verdict, allWhole, someOpen, brokenAt, Answer, verdict, refused, nothing, judgeAnswers, judgeKeeps}
 use Rattle.pattern.specs.Model.{freshMonitor, answers, monitorAfter}
 use Rattle.pattern.specs.Agreement.{WellFormedRules}

@@ -6,15 +6,15 @@ use mathlib.Core.Option.{Option, none, some}
 use mathlib.Core.List.{List, [], _∷_, _++_, append-nil, append-assoc}
 use Prim.Native.Nat.{ℕ, _≤_}
 use native.Mathlib.Nat.{le-refl}
-use lib.Dec.{T, leb, ltb, nltb→le}
+use lib.Dec.{ltb, nltb→le}
 use lib.ListN.{length}
 use Rattle.pattern.specs.Lists.{Each, isIn}
 use Rattle.pattern.specs.Meaning.{Event, Rule, namesOf, Matches, Status, broken, whole, open′, Broken, Judged, WellFormed}
-use Rattle.pattern.specs.Judge.{Observation, event, clock, timeOf, own, traceOf, latest, latestFrom, NeverFalls, EachJudged, Oracle, Right, Verdict, allWhole, someOpen, brokenAt, verdict, verdictOf, badName, refusal, Kept, nothing, Turn, joining, unlessRefused, unlessBroken, judge, judgeAnswers, judgeKeeps}
+use Rattle.pattern.specs.Judge.{Observation, event, clock, timeOf, own, traceOf, latest, NeverFalls, EachJudged, Oracle, Right, Verdict, allWhole, someOpen, brokenAt, verdict, verdictOf, badName, refusal, Kept, nothing, Turn, joining, unlessRefused, unlessBroken, judge, judgeAnswers, judgeKeeps}
 use Rattle.pattern.specs.Model.{RuleState, fresh, step, statusAt, after}
 use Rattle.pattern.proofs.Basics.{zero-one}
 use Rattle.pattern.proofs.Tracks.{Tracks, tracks-fresh, tracks-step, tracks-status}
-use Rattle.pattern.proofs.Traces.{never-falls-snoc, latest-snoc, trace-snoc, trace-rises, trace-past}
+use Rattle.pattern.proofs.Traces.{never-falls-snoc, trace-rises, trace-past}
 
 -- ---- a right oracle: the model's states
 

@@ -1,7 +1,7 @@
 -- An ordering's matches, cut off the front of a list of events, and the stages that take them: the one place where a list is split. P and Q differ in a flag only.
 -- Assumes nothing.
 use mathlib.Core.Path.{_≡_, refl, sym, _∙_, ap, subst}
-use mathlib.Core.Logic.{_⊎_, inl, inr, _≢_}
+use mathlib.Core.Logic.{inl, inr, _≢_}
 use mathlib.Core.Bool.{Bool, true, false}
 use mathlib.Core.List.{List, [], _∷_, _++_, nil≢cons, append-assoc}
 use Prim.Native.Nat.{ℕ, zero, suc, _≤_}

@@ -1,30 +1,28 @@
 -- The model's state of a rule stands for a place of its plan: `keeps`, an event moves both alike; `status-is`, both have one status.
 -- Assumes nothing.
 use mathlib.Core.Path.{_≡_, refl, sym, _∙_, ap, subst}
-use mathlib.Core.Logic.{_⊎_, inl, inr, _≢_}
+use mathlib.Core.Logic.{_⊎_, inl, inr}
 use mathlib.Core.Bool.{Bool, true, false, cond, not, _&&_, _||_, and-false}
-use mathlib.Core.List.{List, [], _∷_, _++_, map, nil≢cons}
-use Prim.Native.Nat.{ℕ, zero, suc, _+_, _≤_, _<_}
+use mathlib.Core.List.{List, [], _∷_, _++_}
+use Prim.Native.Nat.{ℕ, zero, suc, _+_}
 use native.Mathlib.Omega.{arith}
-use lib.Dec.{T, leb, eqb, T-not, not-T, leb·suc-zero, le→leb}
+use lib.Dec.{T, eqb, T-not, le→leb}
 use lib.ListN.{length, drop, getD}
-use borrow.Author.Tests.{le-leb, lt-leb}
-use Rattle.pattern.specs.Lists.{In, isIn, allOf, anyOf}
-use Rattle.pattern.specs.Meaning.{Event, Range, Fragment, fragmentNames, Kind, Rule, namesOf, Status, broken, whole, open′}
-use Rattle.pattern.specs.Recogniser.{State, unbegun, counting, Class, own, sibling, next, other, move, isIdle, isUnbegun, isError, Slot, slots, moves, counts, notBegun, within, erred, complete, canGrow}
-use Rattle.pattern.specs.Model.{RuleState, triggerFragment, roundOf, noFragment, inTime, isOnce, fragmentAt, has, isLast, following, afterP, slotsOf, released, late, classOf, moved, passes, stay, begin, step, atRest, pressed, overdue, statusAt, endAfter}
+use Rattle.pattern.specs.Lists.{In, isIn}
+use Rattle.pattern.specs.Meaning.{Event, Range, Fragment, fragmentNames, Kind, namesOf}
+use Rattle.pattern.specs.Recogniser.{State, unbegun, next, other, move, isError, Slot, slots, moves, notBegun, within, complete}
+use Rattle.pattern.specs.Model.{RuleState, triggerFragment, noFragment, inTime, isOnce, fragmentAt, has, following, afterP, released, late, classOf, moved, passes, stay, begin, step, endAfter}
 use Rattle.pattern.specs.Model as M
-use Rattle.pattern.proofs.Basics.{both, both-l, both-r, either, either-l, either-r, is-true, is-false, and-true-or, test, in-map, any→, any←}
+use Rattle.pattern.proofs.Basics.{both, both-l, both-r, is-true, is-false, and-true-or, test, in-map, any←}
 use Rattle.pattern.proofs.Rounds.{Plan, Stage, Place, fresh, free, dead, at, Ending, again, release, Fits, timely, endOf, go, enter, ended}
 use Rattle.pattern.proofs.Rounds as R
 use Rattle.pattern.proofs.Deadline as D
-use Rattle.pattern.proofs.Running.{slot, Calm, kind}
-use Rattle.pattern.proofs.Fragment.{X, laws, Held, Checked, slotsIn, Runs, Sane, some-range, slots-start, start-count, first-range, running}
+use Rattle.pattern.proofs.Running.{slot, kind}
+use Rattle.pattern.proofs.Fragment.{X, laws, Held, Runs, some-range, slots-start, start-count, first-range, running}
 use Rattle.pattern.proofs.Orderings.{stages, fragments}
 use Rattle.pattern.proofs.Rules.{CheckedRule, CheckedKind, once′, repeated′, timed′, kindOf, ruleOf, answering, endingOf, planOf}
-use Rattle.pattern.proofs.Standing.{statusOf}
 use Rattle.pattern.proofs.Keeps.{Erred, stays-erred, erred-stays, held, moves-same, in-moved, after, late-errs, inside-is, inside-errs, foreign-errs, passing-is, incomplete-errs}
-use Rattle.pattern.proofs.Numbering.{stagesOf, extra, round-plain, length-round, length-stages, drop-next, drop-length, fragment-is, after-is, last-is, not-released}
+use Rattle.pattern.proofs.Numbering.{stagesOf, length-stages, drop-next, drop-length, fragment-is, after-is, last-is, not-released}
 
 -- an event of a stage is late where it is not timely
 late-timely : (π : Plan X) (a : Bool) (end now : ℕ) → (a && not (π .inTime end now)) ≡ not (timely X laws π a end now)

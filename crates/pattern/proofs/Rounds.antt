@@ -2,11 +2,11 @@
 -- is a language of the events to come, `To`; the step that one event makes in it is `go`; and a language with no rest, `whole`. Joins, bounds and states of ranges don't occur here,
 -- and time only in one test, `inTime end now`.
 -- Assumes nothing.
-use mathlib.Core.Path.{_≡_, refl, sym, _∙_, ap, subst}
+use mathlib.Core.Path.{_≡_, refl, sym}
 use mathlib.Core.Logic.{_⊎_, inl, inr, _≢_}
 use mathlib.Core.Bool.{Bool, true, false, cond, not, _&&_}
 use mathlib.Core.List.{List, [], _∷_, _++_, nil≢cons}
-use Prim.Native.Nat.{ℕ, zero, suc, _≤_}
+use Prim.Native.Nat.{ℕ, zero, suc}
 use lib.Dec.{T, eqb}
 use Rattle.pattern.specs.Lists.{Each}
 use Rattle.pattern.specs.Meaning.{Event}

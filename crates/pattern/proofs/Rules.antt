@@ -4,19 +4,17 @@ use mathlib.Core.Path.{_≡_, refl, sym, _∙_, ap, subst}
 use mathlib.Core.Logic.{_⊎_, inl, inr, _≢_}
 use mathlib.Core.Bool.{Bool, true, false, cond, not}
 use mathlib.Core.List.{List, [], _∷_, _++_, nil≢cons, append-assoc, append-nil}
-use Prim.Native.Nat.{ℕ, zero, suc, _+_, _≤_}
+use Prim.Native.Nat.{ℕ, _+_, _≤_}
 use native.Mathlib.Nat.{le-trans, le-refl}
 use native.Mathlib.Omega.{arith}
-use lib.Dec.{T, leb, eqb, eqb→eq, eqb-refl, leb→le, le→leb, lit≤}
-use lib.ListN.{replicate}
-use Rattle.pattern.specs.Lists.{In, Distinct, Each, isIn}
-use Rattle.pattern.specs.Meaning.{Event, names, Range, Fragment, fragmentNames, orderingNames, MatchesOrdering, Kind, once, repeated, timed, Rule, namesOf, On, TriggeredRound, TimedRound, lastTime, InTime, Rounds, Released, MatchesKind, Matches, Rising}
+use lib.Dec.{T, eqb, eqb→eq, eqb-refl, leb→le, le→leb, lit≤}
+use Rattle.pattern.specs.Lists.{In, Distinct, isIn}
+use Rattle.pattern.specs.Meaning.{Event, names, Range, fragmentNames, orderingNames, MatchesOrdering, Kind, once, repeated, timed, Rule, namesOf, On, TriggeredRound, TimedRound, lastTime, InTime, Released, MatchesKind, Matches, Rising}
 use Rattle.pattern.specs.Model.{triggerFragment, inTime}
 use Rattle.pattern.proofs.Basics.{is-true, either, in-left, in-right, distinct-left, distinct-right, distinct-apart, isIn→, isIn←}
-use Rattle.pattern.proofs.Rounds.{Takes, Stage, Plan, Ending, again, release, Place, fresh, Turns, Repeat, repeat→, repeat←, OnNames, Triggered, After, Rest, To, BeginsLast, Apart, follows, Chain, round}
-use Rattle.pattern.proofs.Running.{Fine}
+use Rattle.pattern.proofs.Rounds.{Takes, Stage, Plan, Ending, again, release, fresh, repeat→, repeat←, OnNames, Triggered, After, To, BeginsLast, Apart, follows, Chain, round}
 use Rattle.pattern.proofs.Fragment.{X, laws, Checked, match→}
-use Rattle.pattern.proofs.Orderings.{stages, fragments, rising-last, rising-left, rising-right, AllTimely, Cut, seq→, seq←, timely-p, ordering-some, Round, rounds→, rounds←}
+use Rattle.pattern.proofs.Orderings.{stages, fragments, rising-last, rising-right, AllTimely, seq→, seq←, timely-p, Round, rounds→, rounds←}
 
 -- ---- rules whose fragments are checked
 

@@ -5,18 +5,17 @@ use mathlib.Core.Path.{_≡_, refl, sym, _∙_, ap, ap₂, subst}
 use mathlib.Core.Logic.{_⊎_, inl, inr, _≢_}
 use mathlib.Core.Bool.{Bool, true, false, cond, not}
 use mathlib.Core.List.{List, [], _∷_, _++_, map, map-map, nil≢cons, head-eq-of-cons-eq, tail-eq-of-cons-eq}
-use Prim.Native.Nat.{ℕ, zero, suc, _+_, _-_, _≤_, _<_}
-use native.Mathlib.Nat.{not-suc-le-zero, le-trans, le-refl}
+use Prim.Native.Nat.{ℕ, zero, suc, _+_, _-_, _≤_}
 use native.Mathlib.Omega.{arith}
-use lib.Dec.{T, leb, ltb, eqb, eqb→eq, leb→le, ltb→lt, le→leb, lt→ltb, nleb→lt, T-not, not-T}
-use lib.ListN.{length, replicate}
+use lib.Dec.{T, leb→le, ltb→lt, le→leb, lt→ltb}
+use lib.ListN.{replicate}
 use borrow.Author.Tests.{eq-eqb, ne-eqb}
-use Rattle.pattern.specs.Lists.{In, Distinct, Each, allOf, anyOf, isIn}
-use Rattle.pattern.specs.Meaning.{Range, Join, Fragment, Enough, AtMost, Between, MatchesFragment, fragmentNames}
-use Rattle.pattern.specs.Recogniser.{State, idle, unbegun, waiting, counting, done, error, Class, own, sibling, next, hasEnough, hasRoom, mayBeLeftOut, move, isIdle, isCounting, isError, nextCount, Slot, slots, moves, counts, notBegun, within, erred, complete, canGrow}
+use Rattle.pattern.specs.Lists.{In, Distinct, isIn}
+use Rattle.pattern.specs.Meaning.{Range, Join, Enough, AtMost}
+use Rattle.pattern.specs.Recogniser.{State, idle, unbegun, waiting, counting, done, error, Class, own, sibling, next, hasEnough, hasRoom, mayBeLeftOut, move, isIdle, isError, nextCount, Slot, counts, within, erred, complete}
 use Rattle.pattern.specs.Numbers.{stateNumber}
-use Rattle.pattern.proofs.Basics.{is-true, is-false, test, same?, in-map, of-map, distinct-map, all→, all←, any→, any←, isIn→, isIn←}
-use Rattle.pattern.proofs.Block.{fewer, Choice, Parse, choice-map, close-block, open-block, Opened, choice-nil, nil-choice, least, least-blocks, InFragment, match→choice, choice→match, match-some}
+use Rattle.pattern.proofs.Basics.{is-true, same?, in-map, of-map, distinct-map, all→, all←, any←, isIn→, isIn←}
+use Rattle.pattern.proofs.Block.{fewer, Choice, Parse, choice-map, close-block, open-block, choice-nil, nil-choice}
 
 -- ---- small facts of the table
 

@@ -1,21 +1,20 @@
 -- The status of a rule at the place where its trace leads is the status that the trace has by its meaning.
 -- Assumes nothing.
-use mathlib.Core.Path.{_≡_, refl, sym, _∙_, ap, subst}
-use mathlib.Core.Logic.{_⊎_, inl, inr}
+use mathlib.Core.Path.{sym, subst}
 use mathlib.Core.Bool.{Bool, true, false, cond, not}
-use mathlib.Core.List.{List, [], _∷_, _++_, append-nil}
+use mathlib.Core.List.{List, [], _++_, append-nil}
 use Prim.Native.Nat.{ℕ, _+_, _≤_}
 use native.Mathlib.Nat.{le-trans}
 use native.Mathlib.Omega.{arith}
-use lib.Dec.{T, leb, leb→le, le→leb, T-not}
+use lib.Dec.{T, leb→le, le→leb, T-not}
 use Rattle.pattern.specs.Lists.{Distinct}
-use Rattle.pattern.specs.Meaning.{Event, Kind, once, repeated, timed, Rule, namesOf, Matches, lastTime, Rising, Continuation, Status, broken, whole, open′, Broken, Judged}
+use Rattle.pattern.specs.Meaning.{Event, Kind, once, repeated, timed, namesOf, Matches, lastTime, Rising, Status, broken, whole, open′, Broken, Judged}
 use Rattle.pattern.specs.Model.{inTime}
 use Rattle.pattern.proofs.Rounds.{Place, fresh, To, Fits, run, run-fits, run→, run←, isWhole, whole→, whole←}
 use Rattle.pattern.proofs.Fragment.{X, laws}
 use Rattle.pattern.proofs.Deadline.{isBroken, broken→, broken←}
 use Rattle.pattern.proofs.Orderings.{rising-append, rising-from}
-use Rattle.pattern.proofs.Rules.{CheckedRule, ruleOf, planOf, endingOf, matches→, matches←, on→, on←, chained}
+use Rattle.pattern.proofs.Rules.{CheckedRule, ruleOf, planOf, endingOf, matches→, matches←, on←, chained}
 
 -- the two facts of the test of time
 pub earlier : (k : Kind) (end a b : ℕ) → a ≤ b → T (inTime k end b) → T (inTime k end a)

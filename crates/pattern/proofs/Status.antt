@@ -2,24 +2,24 @@
 -- Assumes nothing.
 use mathlib.Core.Path.{_≡_, refl, sym, _∙_, ap, subst}
 use mathlib.Core.Logic.{_⊎_, inl, inr, _≢_}
-use mathlib.Core.Bool.{Bool, true, false, cond, not, _&&_, _||_, and-false}
+use mathlib.Core.Bool.{Bool, true, false, cond, not, _&&_, and-false}
 use mathlib.Core.List.{List, [], _∷_}
-use Prim.Native.Nat.{ℕ, zero, suc}
-use lib.Dec.{T, T-not, not-T}
+use Prim.Native.Nat.{ℕ, suc}
+use lib.Dec.{T, not-T}
 use lib.ListN.{drop}
-use Rattle.pattern.specs.Lists.{In, anyOf}
-use Rattle.pattern.specs.Meaning.{Range, Fragment, Status, broken, whole, open′}
+use Rattle.pattern.specs.Lists.{anyOf}
+use Rattle.pattern.specs.Meaning.{Range, Fragment, broken, whole}
 use Rattle.pattern.specs.Recogniser.{State, unbegun, waiting, counting, done, isUnbegun, isError, Slot, slots, notBegun, erred, complete, canGrow}
-use Rattle.pattern.specs.Model.{RuleState, inTime, fragmentAt, isLast, following, afterP, slotsOf, joinOf, released, atRest, pressed, overdue, statusAt}
+use Rattle.pattern.specs.Model.{RuleState, inTime, following, afterP, slotsOf, joinOf, released, atRest, pressed, overdue, statusAt}
 use Rattle.pattern.specs.Model as M
-use Rattle.pattern.proofs.Basics.{either-l, either-r, either, is-true, is-false, in-map, any→, any←}
-use Rattle.pattern.proofs.Rounds.{Stage, Place, fresh, free, dead, at, Ending, again, release, Fits, ended}
+use Rattle.pattern.proofs.Basics.{either-l, either-r, is-true, is-false, in-map, any→, any←}
+use Rattle.pattern.proofs.Rounds.{Stage, Place, fresh, free, dead, at, Ending, again, Fits, ended}
 use Rattle.pattern.proofs.Deadline as D
 use Rattle.pattern.proofs.Running.{slot, Calm, kind}
-use Rattle.pattern.proofs.Fragment.{X, laws, Held, Checked, slotsIn, Runs, some-range, slots-start, running}
+use Rattle.pattern.proofs.Fragment.{X, laws, Held, slotsIn, Runs, some-range, slots-start, running}
 use Rattle.pattern.proofs.Rules.{CheckedRule, CheckedKind, once′, repeated′, timed′, kindOf, ruleOf, endingOf, planOf}
 use Rattle.pattern.proofs.Standing.{statusOf}
-use Rattle.pattern.proofs.Keeps.{Erred, held}
+use Rattle.pattern.proofs.Keeps.{held}
 use Rattle.pattern.proofs.Numbering.{stagesOf, fragment-is, after-is, last-is, not-released, drop-next}
 use Rattle.pattern.proofs.Places.{Stands}
 

@@ -1,20 +1,19 @@
 -- One rule: a state of the model follows the rule's trace from the fresh state on, and says of it what the meaning says.
 -- Assumes nothing.
-use mathlib.Core.Path.{_≡_, refl, sym, _∙_, ap, subst}
-use mathlib.Core.List.{List, [], _∷_, _++_, append-nil}
-use Prim.Native.Nat.{ℕ, suc, _≤_}
+use mathlib.Core.Path.{_≡_, refl, sym, ap, subst}
+use mathlib.Core.List.{List, [], _∷_, _++_}
+use Prim.Native.Nat.{ℕ, _≤_}
 use native.Mathlib.Nat.{not-suc-le-zero}
 use lib.Dec.{T}
-use lib.ListN.{length}
-use Rattle.pattern.specs.Lists.{In, Distinct, Each, isIn}
-use Rattle.pattern.specs.Meaning.{Event, Range, Fragment, fragmentNames, orderingNames, kindNames, Kind, once, repeated, timed, Rule, namesOf, lastTime, Rising, Judged, WellFormedRange, WellFormedFragment, WellFormedOrdering, WellFormedKind, WellFormed}
+use Rattle.pattern.specs.Lists.{Distinct, Each, isIn}
+use Rattle.pattern.specs.Meaning.{Event, Fragment, fragmentNames, orderingNames, kindNames, Kind, once, repeated, timed, Rule, namesOf, lastTime, Rising, Judged, WellFormedRange, WellFormedFragment, WellFormedOrdering, WellFormedKind, WellFormed}
 use Rattle.pattern.specs.Model.{RuleState, fresh, step, statusAt, atRest}
 use Rattle.pattern.proofs.Basics.{each-in, distinct-left, distinct-right}
 use Rattle.pattern.proofs.Rounds as R
 use Rattle.pattern.proofs.Fragment.{X, laws, Checked}
 use Rattle.pattern.proofs.Orderings.{fragments}
 use Rattle.pattern.proofs.Rules.{CheckedRule, CheckedKind, once′, repeated′, timed′, ruleOf, kindOf, endingOf, planOf, chained}
-use Rattle.pattern.proofs.Standing.{placeAfter, statusOf, judged}
+use Rattle.pattern.proofs.Standing.{placeAfter, judged}
 use Rattle.pattern.proofs.Places.{Stands, keeps}
 use Rattle.pattern.proofs.Status.{fresh-rests, status-is}
 

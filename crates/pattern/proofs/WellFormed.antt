@@ -1,11 +1,11 @@
 -- Well-formedness as a test that computes, for rules that are written out.
 -- Assumes nothing.
-use mathlib.Core.Bool.{Bool, true, false, not, _&&_}
+use mathlib.Core.Bool.{Bool, true, not, _&&_}
 use mathlib.Core.List.{List, [], _∷_}
 use Prim.Native.Nat.{ℕ}
 use lib.Dec.{T, leb, leb→le, T-not}
 use lib.ListN.{length}
-use Rattle.pattern.specs.Lists.{In, Distinct, Each, isIn, allOf}
+use Rattle.pattern.specs.Lists.{Distinct, Each, isIn, allOf}
 use Rattle.pattern.specs.Meaning.{Range, Fragment, Kind, once, repeated, timed, Rule, namesOf, Between, WellFormedRange, WellFormedFragment, WellFormedOrdering, WellFormedKind, WellFormed}
 use Rattle.pattern.specs.Agreement.{WellFormedRules}
 use Rattle.pattern.proofs.Basics.{both-l, both-r, isIn←}

@@ -3,7 +3,6 @@
 -- "Broken" speaks of all continuations, so no definition can test it. The judge therefore asks an oracle for the statuses, and an oracle is right
 -- if what it says is what `Meaning` says. A right oracle exists for all well-formed rules, and all right ones say the same: `proofs/Oracle`.
 -- Assumes nothing.
-use mathlib.Core.Path.{_≡_}
 use mathlib.Core.Bool.{Bool, true, false, cond}
 use mathlib.Core.Option.{Option, none, some}
 use mathlib.Core.List.{List, [], _∷_, _++_}

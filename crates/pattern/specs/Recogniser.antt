@@ -4,8 +4,8 @@ use mathlib.Core.Bool.{Bool, true, false, cond, not}
 use mathlib.Core.List.{List, [], _∷_}
 use Prim.Native.Nat.{ℕ, zero, suc}
 use lib.Dec.{leb, ltb, eqb}
-use Rattle.pattern.specs.Lists.{isIn, allOf, anyOf}
-use Rattle.pattern.specs.Meaning.{Range, Join, all, any, Fragment, fragmentNames}
+use Rattle.pattern.specs.Lists.{allOf, anyOf}
+use Rattle.pattern.specs.Meaning.{Range, Join, all, any}
 
 -- ---- one range
 

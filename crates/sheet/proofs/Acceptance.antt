@@ -1,25 +1,25 @@
 -- Demand 2: bytes are read as the sheet S exactly when they are the bytes of S and S is well-formed.
 -- Assumes nothing.
 use mathlib.Core.Path.{_≡_, refl, ap, sym, subst, _∙_}
-use mathlib.Core.Bool.{Bool, true, false, not, _&&_, cond}
+use mathlib.Core.Bool.{Bool, true, false, not, cond}
 use mathlib.Core.List.{List, [], _∷_, _++_, append-nil}
-use Prim.Native.Nat.{ℕ, zero, suc, _≤_, _<_, _^_, zero-le}
+use Prim.Native.Nat.{ℕ, _≤_, _<_, _^_, zero-le}
 use native.Mathlib.Omega.{arith}
 use lib.Dec.{ltb}
-use lib.ListN.{length, drop, length-drop, drop-of-length-le}
+use lib.ListN.{length, length-drop, drop-of-length-le}
 use borrow.Author.Tests.{le-ltb, ltb-false, not-false}
 use Rattle.pattern.specs.Lists.{Each, Distinct}
-use Rattle.pattern.specs.Meaning.{Fragment, fragmentNames, orderingNames, Kind, once, repeated, timed, Rule, Between, WellFormed, WellFormedOrdering}
+use Rattle.pattern.specs.Meaning.{Fragment, fragmentNames, orderingNames, Kind, once, repeated, timed, Rule, Between, WellFormedOrdering}
 use Rattle.names.specs.Names.{member, insert, insertAll}
 use Rattle.names.proofs.Sets.{member-empty}
-use Rattle.sheet.specs.Layout.{Sheet, le, each, ruleBytes, mark, version, encode, Input, Output, Directed, WellFormedRule, WellFormedSheet, Bytes}
+use Rattle.sheet.specs.Layout.{Sheet, le, each, ruleBytes, mark, version, encode, Output, WellFormedRule, WellFormedSheet, Bytes}
 use Rattle.sheet.specs.Form.{Got, got, stopped, next, fieldAt, read}
-use Rattle.sheet.specs.Reading.{markFault, versionFault, noFault, rulesFault, rule, rules, sheet, Outcome, accepted, refused, atEnd, readSheet}
+use Rattle.sheet.specs.Reading.{markFault, versionFault, noFault, rulesFault, rule, rules, sheet, accepted, refused, atEnd, readSheet}
 use Rattle.sheet.proofs.Values.{unlike-faultless, unlike-right, outside-faultless, outside-right}
 use Rattle.sheet.proofs.Fields.{Piece, join-pieces, FieldGot, field-sound, field-complete, Finds}
 use Rattle.sheet.proofs.Forms.{next-got, next-same, moved, read-bind, Sound, AllGood, several-sound, several-complete}
 use Rattle.sheet.proofs.Parts.{FragmentFits, RuleFits, rule-sound, rule-complete}
-use Rattle.sheet.proofs.Sets.{trigger-last, trigger-first, Fresh, Direction, fresh-distinct, distinct-fresh, fresh-append, append-fresh, fragments-split, fragments-join}
+use Rattle.sheet.proofs.Sets.{trigger-last, trigger-first, Direction, fresh-distinct, distinct-fresh, fresh-append, append-fresh, fragments-split, fragments-join}
 
 -- ---- the whole sheet, and a sheet that fits
 

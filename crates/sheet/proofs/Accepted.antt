@@ -1,14 +1,15 @@
 -- What follows for an accepted sheet: one sheet for the same bytes, at most 5,774 of them, and 1 to 16 rules that are all well-formed.
 -- Assumes nothing.
-use mathlib.Core.Path.{_≡_, refl, ap, sym, subst, _∙_}
+use mathlib.Core.Path.{_≡_, ap, sym, subst, _∙_}
 use mathlib.Core.List.{List, [], _∷_}
 use Prim.Native.Nat.{ℕ, _≤_}
 use lib.ListN.{length}
 use Rattle.pattern.specs.Lists.{Each}
-use Rattle.pattern.specs.Meaning.{Rule, Between, WellFormed}
+use Rattle.pattern.specs.Meaning.{Rule, WellFormed}
+use Rattle.pattern.specs.Agreement.{WellFormedRules}
 use Rattle.sheet.specs.Layout.{Sheet, encode, WellFormedRule, WellFormedSheet, longest, Bytes}
-use Rattle.sheet.specs.Reading.{Outcome, accepted, readSheet}
-use Rattle.sheet.proofs.Acceptance.{Accepts, accepted-is-encoded, encoded-is-accepted}
+use Rattle.sheet.specs.Reading.{accepted, readSheet}
+use Rattle.sheet.proofs.Acceptance.{accepted-is-encoded, encoded-is-accepted}
 use Rattle.sheet.proofs.Length.{sheet-length}
 
 sheet-of : {S T : Sheet} → accepted S ≡ accepted T → S ≡ T
@@ -24,15 +25,13 @@ accepted-length s bytes {S} e =
     let a = accepted-is-encoded s bytes e in
     subst (λ (l : List ℕ). length l ≤ longest) (sym (a .bytes)) (sheet-length S (a .formed))
 
--- what the agreement theorem asks of the rules
-pub record AcceptedRules (rules : List Rule) : Type 0 where
-  pub count : Between 1 16 (length rules)
-  pub formed : Each WellFormed rules
+-- a well-formed sheet's rules are what the agreement theorem asks for
+pub rules-formed : (S : Sheet) → WellFormedSheet S → WellFormedRules (S .rules)
+rules-formed S w = record { count = w .count; each = go (S .rules) (w .rules) }
+  where
+    go : (rs : List Rule) → Each (WellFormedRule (S .outputs)) rs → Each WellFormed rs
+    go [] g = tt
+    go (r ∷ rs) g = (g .0 .formed, go rs (g .1))
 
-all-formed : (outputs : ℕ) (rs : List Rule) → Each (WellFormedRule outputs) rs → Each WellFormed rs
-all-formed outputs [] g = tt
-all-formed outputs (r ∷ rs) g = (g .0 .formed, all-formed outputs rs (g .1))
-
-pub accepted-rules : (s : List ℕ) → Bytes s → {S : Sheet} → readSheet s ≡ accepted S → AcceptedRules (S .rules)
-accepted-rules s bytes {S} e =
-    let a = accepted-is-encoded s bytes e in record { count = a .formed .count; formed = all-formed (S .outputs) (S .rules) (a .formed .rules) }
+pub accepted-rules : (s : List ℕ) → Bytes s → {S : Sheet} → readSheet s ≡ accepted S → WellFormedRules (S .rules)
+accepted-rules s bytes {S} e = rules-formed S (accepted-is-encoded s bytes e .formed)

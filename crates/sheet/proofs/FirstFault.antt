@@ -1,19 +1,19 @@
 -- "the first faulty field decides": a refusal below 10 is that of the first faulty field, all fields before it being right, and a first faulty field is always found;
 -- 10 is said exactly where every field is right and bytes are left over.
 -- Assumes nothing.
-use mathlib.Core.Path.{_≡_, refl, ap, sym, subst, _∙_}
-use mathlib.Core.Logic.{_⊎_, inl, inr, ⊎-elim}
+use mathlib.Core.Path.{_≡_, refl, sym, subst, _∙_}
+use mathlib.Core.Logic.{_⊎_, inl, inr}
 use mathlib.Core.Bool.{Bool, true, false, cond}
 use mathlib.Core.List.{List}
-use Prim.Native.Nat.{ℕ, zero, suc, _+_, _<_, _≤_}
+use Prim.Native.Nat.{ℕ, zero, suc, _+_, _<_}
 use native.Mathlib.Nat.{zero-lt-suc}
 use native.Mathlib.Omega.{arith}
 use lib.Dec.{ltb}
 use lib.ListN.{length}
-use borrow.Author.Tests.{ltb-true, ltb-false, lt-ltb, le-ltb}
+use borrow.Author.Tests.{ltb-true, ltb-false, lt-ltb}
 use Rattle.sheet.specs.Layout.{Sheet}
-use Rattle.sheet.specs.Form.{Form, done, field, Got, got, stopped, next, number, unless, fieldAt, read, RightField, HasFault, FirstFault}
-use Rattle.sheet.specs.Reading.{sheet, Outcome, accepted, refused, atEnd, readSheet}
+use Rattle.sheet.specs.Form.{Form, done, field, Got, got, stopped, next, number, fieldAt, read, RightField, HasFault, FirstFault}
+use Rattle.sheet.specs.Reading.{sheet, accepted, refused, atEnd, readSheet}
 
 module _ (s : List ℕ) where
   -- ---- a field: it is right, or it has a fault

@@ -1,7 +1,7 @@
 -- "A sheet has at most 5,774 bytes": 64 names and 16 fragments a rule, 16 rules. Distinct names below 64 are at most 64: take the largest number away, and count on.
 -- Assumes nothing.
-use mathlib.Core.Path.{_≡_, refl, ap, sym, subst, _∙_}
-use mathlib.Core.Logic.{_⊎_, inl, inr, ⊎-elim}
+use mathlib.Core.Path.{_≡_, refl, subst}
+use mathlib.Core.Logic.{inl, inr}
 use mathlib.Core.Bool.{Bool, true, false, cond}
 use mathlib.Core.List.{List, [], _∷_, _++_, map}
 use Prim.Native.Nat.{ℕ, zero, suc, _+_, _*_, _≤_, _<_}
@@ -11,8 +11,8 @@ use lib.ListN.{length, length-append, length-map}
 use borrow.Author.Tests.{eqb-true, eqb-false}
 use Rattle.pattern.specs.Lists.{In, Distinct, Each}
 use Rattle.pattern.specs.Meaning.{Range, Fragment, fragmentNames, orderingNames, Kind, once, repeated, timed, Rule, kindNames, namesOf, WellFormedRange, WellFormedFragment, WellFormed}
-use Rattle.sheet.specs.Layout.{Sheet, each, inQ, rangeBytes, fragmentBytes, ruleBytes, encode, WellFormedRule, WellFormedSheet, longest}
-use Rattle.sheet.proofs.Sets.{each-append, in-left}
+use Rattle.sheet.specs.Layout.{Sheet, each, rangeBytes, fragmentBytes, ruleBytes, encode, WellFormedRule, WellFormedSheet, longest}
+use Rattle.sheet.proofs.Sets.{each-append}
 
 -- ---- distinct numbers below k are at most k
 

@@ -6,12 +6,12 @@ use mathlib.Core.List.{List, [], _∷_, _++_}
 use Prim.Native.Nat.{ℕ, zero, suc, _+_, _*_, _<_, _≤_}
 use native.Mathlib.Nat.{mul-suc, add-zero}
 use native.Mathlib.Omega.{arith}
-use lib.ListN.{length, getD, set, take, replicate, length-set, length-append, length-replicate}
+use lib.ListN.{length, getD, take, replicate, length-set, length-append, length-replicate}
 use lib.Seq.{getD-set-same, getD-set-other}
 use Rattle.pattern.specs.Lists.{Each}
 use Rattle.pattern.specs.Meaning.{Range, Fragment, Kind, once, repeated, timed, Rule, WellFormedFragment, WellFormed}
 use Rattle.pattern.specs.Model.{triggerFragment, lastFragments, roundOf, noFragment, fragmentAt}
-use Rattle.sheet.specs.Layout.{Sheet, headerOf, WellFormedRule, WellFormedSheet}
+use Rattle.sheet.specs.Layout.{headerOf}
 use Rattle.sheet.specs.Pages.{rangeWord, fragmentWord, headerWord, fill, putRange, putRanges, putFragment, putRuleRanges, putRuleFragments, putRule, headTable, fragmentTable, rangeTable, noRange, noRule, ruleAt, rangeAt}
 use Rattle.sheet.proofs.Sets.{each-append}
 

@@ -1,16 +1,16 @@
 -- Ranges, fragments and rules, and their bytes: a part that is read stands there in bytes and fits, and a part that fits is read from its bytes. "Fits" is what the reading asks,
 -- with the set of names so far; that it is what `WellFormedSheet` asks is said in `Sets` and `Acceptance`.
 -- Assumes nothing.
-use mathlib.Core.Path.{_≡_, refl, ap, sym, subst, _∙_}
+use mathlib.Core.Path.{_≡_, refl, sym, subst, _∙_}
 use mathlib.Core.Bool.{Bool, true, false}
 use mathlib.Core.List.{List, [], _∷_, _++_, append-assoc}
-use Prim.Native.Nat.{ℕ, zero, suc, _≤_, _<_, _^_}
+use Prim.Native.Nat.{ℕ, zero, suc, _≤_}
 use native.Mathlib.Omega.{arith}
 use lib.ListN.{length, drop}
 use Rattle.pattern.specs.Meaning.{Range, Join, all, any, Fragment, fragmentNames, orderingNames, Kind, once, repeated, timed, Rule, Between, WellFormedRange}
 use Rattle.names.specs.Names.{insertAll}
 use Rattle.sheet.specs.Layout.{le, each, joinNumber, kindNumber, inQ, triggerOf, timeOf, rangeBytes, fragmentBytes, Header, headerOf, headerBytes, ruleBytes, Bytes}
-use Rattle.sheet.specs.Form.{Got, got, next, fieldAt, read}
+use Rattle.sheet.specs.Form.{got, next, fieldAt, read}
 use Rattle.sheet.specs.Reading.{outside, below, nameFault, triggerFault, dueZero, noFault, byKind, joinOf, kindOf, triggerSet, rangeName, range, ranges, fragment, fragments, header, rule}
 use Rattle.sheet.proofs.Values.{outside-faultless, outside-right, below-faultless, below-right, NameFits, name-faultless, name-right, ByKind, kind-faultless, kind-right}
 use Rattle.sheet.proofs.Fields.{Piece, join-pieces, FieldGot, field-sound, field-complete, Finds}

@@ -8,8 +8,8 @@ use mathlib.Core.List.{List, [], _∷_, _++_, map}
 use Prim.Native.Nat.{ℕ}
 use native.Mathlib.Omega.{arith}
 use lib.Dec.{eqb}
-use borrow.Author.Tests.{eqb-true, eqb-false, eq-eqb, ne-eqb}
-use Rattle.pattern.specs.Lists.{In, Distinct, Each, isIn}
+use borrow.Author.Tests.{eqb-false, ne-eqb}
+use Rattle.pattern.specs.Lists.{In, Distinct, Each}
 use Rattle.pattern.specs.Meaning.{Range, Fragment, fragmentNames, orderingNames, WellFormedRange, WellFormedFragment}
 use Rattle.names.specs.Names.{member, insert, insertAll}
 use Rattle.names.proofs.Sets.{member-insert, member-empty}

@@ -2,9 +2,9 @@
 -- and S is one that may be written if it is well-formed. What a rule is, and when it is well-formed by itself, is the crate `pattern`'s.
 -- Assumes nothing.
 use mathlib.Core.Path.{_≡_}
-use mathlib.Core.Bool.{Bool, true, false}
+use mathlib.Core.Bool.{true, false}
 use mathlib.Core.List.{List, [], _∷_, _++_}
-use Prim.Native.Nat.{ℕ, zero, suc, _/_, _%_, _^_, _<_, _≤_}
+use Prim.Native.Nat.{ℕ, zero, suc, _/_, _%_, _^_, _<_}
 use lib.ListN.{length}
 use Rattle.pattern.specs.Lists.{Each}
 use Rattle.pattern.specs.Meaning.{Range, Join, all, any, Fragment, Kind, once, repeated, timed, Rule, orderingNames, Between, WellFormed}

@@ -1,24 +1,22 @@
 -- One rule over the tables of a book that has it is the model's rule: an event moves the numbers as the model moves the state that they stand for, and the standing is the model's status.
 -- Assumes nothing.
-use mathlib.Core.Path.{_≡_, refl, sym, _∙_, ap, ap₂, subst}
-use mathlib.Core.Logic.{_⊎_, inl, inr, _≢_}
+use mathlib.Core.Path.{_≡_, refl, sym, _∙_, ap, subst}
 use mathlib.Core.Bool.{Bool, true, false, cond, not, _&&_, _||_, and-false, and-assoc}
 use mathlib.Core.List.{List, [], _∷_, map}
 use Prim.Native.Nat.{ℕ, zero, suc, _+_, _*_, _%_, _≤_, _<_}
-use native.Mathlib.Nat.{mod-eq-of-lt, le-trans}
+use native.Mathlib.Nat.{mod-eq-of-lt}
 use native.Mathlib.Numerals.{add-one}
 use native.Mathlib.Omega.{arith}
-use lib.Dec.{T, leb, ltb, eqb, not-T}
-use lib.ListN.{length, getD, replicate}
-use borrow.Author.Tests.{eq-eqb, ne-eqb, lt-leb, le-leb, leb-true, leb-false, lt-ltb, le-ltb}
-use Rattle.names.specs.Names.{member}
-use Rattle.pattern.specs.Lists.{In, Distinct, isIn, allOf, anyOf}
+use lib.Dec.{leb, ltb, eqb, not-T}
+use lib.ListN.{length, replicate}
+use borrow.Author.Tests.{lt-leb, leb-true, leb-false, lt-ltb, le-ltb}
+use Rattle.pattern.specs.Lists.{Distinct, isIn, allOf, anyOf}
 use Rattle.pattern.specs.Meaning.{Event, Range, Join, Fragment, fragmentNames, Kind, once, repeated, timed, Rule, Status, broken, whole, open′}
 use Rattle.pattern.specs.Recogniser.{State, idle, unbegun, move, Class, own, sibling, next, other, isIdle, isError, isUnbegun, nextCount, Slot, slots, moves, counts, notBegun, within, erred, complete, canGrow}
-use Rattle.pattern.specs.Model.{roundOf, inTime, isOnce, fragmentAt, has, isLast, following, afterP, slotsOf, joinOf, released, late, classOf, endAfter, begin, moved, passes, stay, step, atRest, pressed, overdue, statusAt}
+use Rattle.pattern.specs.Model.{roundOf, inTime, isOnce, fragmentAt, has, isLast, following, afterP, slotsOf, joinOf, released, late, classOf, endAfter, begin, moved, passes, stay, step, atRest, statusAt}
 use Rattle.pattern.specs.Model as M
 use Rattle.pattern.specs.Numbers as Num
-use Rattle.pattern.proofs.Basics.{zero-one, either, is-true, is-false, test}
+use Rattle.pattern.proofs.Basics.{zero-one, is-false}
 use Rattle.pattern.proofs.Keeps.{all-begun}
 use Rattle.book.specs.Words.{nameIn, lowIn, highIn}
 use Rattle.sheet.specs.Layout.{kindNumber, timeOf}
@@ -26,9 +24,9 @@ use Rattle.step.specs.declared.RuleState.{RuleState}
 use Rattle.step.specs.declared.Turned.{Turned}
 use Rattle.step.specs.declared.Stepped.{Stepped}
 use Rattle.step.specs.declared.Plan.{Plan}
-use Rattle.step.specs.Steps.{Ranges, wordAt, classAt, countOf, moveOf, turnOf, zeros, begunOf, begunStates, completeOf, growsOf, pastOf, followsOf, endOf, seenOf, dueOf, runsOf, standingOf, settledOf, rangesOf, beginOf, stayOf, actOf}
-use Rattle.step.specs.Upto.{mapN, foldN}
-use Rattle.step.specs.Decode.{decode, rangeIn, rangesFrom, HoldsFragment, Holds}
+use Rattle.step.specs.Steps.{Ranges, classAt, countOf, moveOf, turnOf, zeros, begunOf, begunStates, completeOf, growsOf, pastOf, followsOf, endOf, seenOf, dueOf, runsOf, standingOf, settledOf, rangesOf, beginOf, stayOf, actOf}
+use Rattle.step.specs.Upto.{length-mapN, foldN}
+use Rattle.step.specs.Decode.{decode, rangeIn, HoldsFragment, Holds}
 use Rattle.step.proofs.Slots.{moves-are, bad-is, idle-is, complete-is, grows-is, begun-are, count-kept, count-own}
 use Rattle.step.proofs.Status.{isTimed, running}
 
@@ -140,11 +138,6 @@ module _ (g : Ranges) (f : Fragment) (hf : HoldsFragment g f) (distinct : Distin
 -- the status that a standing says
 abbrev pub statusIn : ℕ → Status
 statusIn k = cond (eqb k 3) broken (cond (eqb k 0) whole open′)
-
-length-mapN : {A : Type 0} (f : ℕ → A → A) (k n : ℕ) (l : List A) → length (mapN f k n l) ≡ length l
-length-mapN f k zero l = refl
-length-mapN f k (suc n) [] = refl
-length-mapN f k (suc n) (x ∷ l) = ap suc (length-mapN f (suc k) n l)
 
 -- the first event of a fragment is no error
 begun-right : (j : Join) (m c : ℕ) (rs : List Range) (n : ℕ) → erred (slots rs (moves j (within m) c rs (notBegun rs n))) ≡ false

@@ -1,19 +1,19 @@
 -- The loops over a fragment's ranges, in numbers, are the model's functions on its slots.
 -- Assumes nothing.
 use mathlib.Core.Path.{_≡_, refl, sym, _∙_, ap, ap₂, subst}
-use mathlib.Core.Logic.{_⊎_, inl, inr, _≢_}
+use mathlib.Core.Logic.{inl, inr}
 use mathlib.Core.Bool.{Bool, true, false, cond, not, _&&_, _||_, and-true, and-assoc, or-assoc, or-false}
 use mathlib.Core.List.{List, [], _∷_, map}
-use Prim.Native.Nat.{ℕ, zero, suc, _+_, _≤_, _<_}
+use Prim.Native.Nat.{ℕ, zero, suc, _+_, _≤_}
 use native.Mathlib.Nat.{not-suc-le-zero}
 use native.Mathlib.Numerals.{add-one}
 use native.Mathlib.Omega.{arith}
-use lib.Dec.{T, leb, ltb, eqb, eqb→eq}
-use lib.ListN.{length, getD, replicate}
-use borrow.Author.Tests.{eq-eqb, ne-eqb}
-use Rattle.pattern.specs.Lists.{In, Distinct, isIn, allOf, anyOf}
-use Rattle.pattern.specs.Meaning.{Range, Join, all, any, Fragment}
-use Rattle.pattern.specs.Recogniser.{State, idle, unbegun, waiting, counting, done, error, Class, own, sibling, next, other, hasEnough, hasRoom, mayBeLeftOut, move, isIdle, isCounting, isError, nextCount, Slot, slots, moves, counts, notBegun, within, erred, complete, canGrow}
+use lib.Dec.{leb, ltb, eqb, eqb→eq}
+use lib.ListN.{length, replicate}
+use borrow.Author.Tests.{ne-eqb}
+use Rattle.pattern.specs.Lists.{In, Distinct, allOf, anyOf}
+use Rattle.pattern.specs.Meaning.{Range, Join}
+use Rattle.pattern.specs.Recogniser.{State, idle, unbegun, waiting, counting, done, error, Class, own, sibling, next, other, move, isIdle, isCounting, isError, nextCount, Slot, slots, moves, counts, notBegun, within, erred, complete, canGrow}
 use Rattle.pattern.specs.Numbers.{stateNumber, stateOf, joinOf, bounds, nextState}
 use Rattle.pattern.specs.Numbers as Num
 use Rattle.pattern.proofs.Numbers.{state-back}

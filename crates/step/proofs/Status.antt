@@ -1,17 +1,14 @@
 -- What the clock can change of a rule's status: nothing, unless its deadline runs; then it is open up to the deadline and broken after it.
 -- Assumes nothing.
-use mathlib.Core.Path.{_≡_, refl, sym, _∙_, ap, subst}
-use mathlib.Core.Logic.{_⊎_, inl, inr}
-use mathlib.Core.Bool.{Bool, true, false, cond, not, _&&_, _||_, and-false}
-use mathlib.Core.List.{List}
-use Prim.Native.Nat.{ℕ, zero, suc, _+_, _≤_, _<_}
-use lib.Dec.{T, leb, ltb, eqb, leb·suc-zero}
+use mathlib.Core.Path.{_≡_, refl}
+use mathlib.Core.Bool.{Bool, true, false, cond, not, _&&_}
+use Prim.Native.Nat.{ℕ, _≤_}
 use lib.ListN.{length}
 use borrow.Author.Tests.{lt-leb}
 use Rattle.pattern.proofs.Basics.{zero-one}
-use Rattle.pattern.specs.Meaning.{Kind, once, repeated, timed, Rule, Status, broken, whole, open′}
-use Rattle.pattern.specs.Recogniser.{erred, complete, canGrow}
-use Rattle.pattern.specs.Model.{RuleState, roundOf, inTime, isOnce, isLast, following, afterP, slotsOf, joinOf, atRest, pressed, overdue, statusAt}
+use Rattle.pattern.specs.Meaning.{Kind, once, repeated, timed, Rule, broken, whole, open′}
+use Rattle.pattern.specs.Recogniser.{erred, complete}
+use Rattle.pattern.specs.Model.{RuleState, inTime, isLast, afterP, slotsOf, joinOf, atRest, pressed, statusAt}
 
 abbrev pub isTimed : Kind → Bool
 isTimed (once i) = false

@@ -1,14 +1,12 @@
 -- What the numbers of a rule's state and of a book's tables stand for, in the words of the crate `pattern`.
 -- Assumes nothing.
 use mathlib.Core.Path.{_≡_}
-use mathlib.Core.Bool.{Bool}
 use mathlib.Core.List.{List, [], _∷_, map}
 use Prim.Native.Nat.{ℕ, zero, suc, _+_, _*_, _≤_, _<_}
 use lib.ListN.{length, getD}
 use Rattle.names.specs.Names.{member}
 use Rattle.pattern.specs.Lists.{isIn}
 use Rattle.pattern.specs.Meaning.{Range, Fragment, fragmentNames, Rule}
-use Rattle.pattern.specs.Recogniser.{State}
 use Rattle.pattern.specs.Model.{roundOf, fragmentAt}
 use Rattle.pattern.specs.Model as M
 use Rattle.pattern.specs.Numbers.{stateOf, joinOf}

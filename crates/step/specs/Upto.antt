@@ -1,6 +1,6 @@
 -- A loop over a small array: each of the first n elements changed by its place, and a value gathered from them. Two laws serve every such loop.
 -- Assumes nothing.
-use mathlib.Core.Path.{_≡_, sym, _∙_, ap}
+use mathlib.Core.Path.{_≡_, refl, sym, _∙_, ap}
 use mathlib.Core.List.{List, [], _∷_}
 use Prim.Native.Nat.{ℕ, zero, suc, _+_, _<_}
 use native.Mathlib.Nat.{add-zero, zero-add, add-suc, suc-add, le-of-suc-le-suc, not-suc-le-zero}
@@ -26,6 +26,11 @@ module _ {A : Type 0} where
   mapN-more f n l d h =
       ap (λ (i : ℕ). set (mapN f 0 n l) n (f i (getD l n d))) (sym (zero-add n)) ∙ set-mapN f 0 n l d h
       ∙ ap (λ (i : ℕ). mapN f 0 i l) (sym (add-one n))
+
+  pub length-mapN : (f : ℕ → A → A) (k n : ℕ) (l : List A) → length (mapN f k n l) ≡ length l
+  length-mapN f k zero l = refl
+  length-mapN f k (suc n) [] = refl
+  length-mapN f k (suc n) (x ∷ l) = ap suc (length-mapN f (suc k) n l)
 
 module _ {A B : Type 0} where
   -- the n elements from number k on, gathered into b

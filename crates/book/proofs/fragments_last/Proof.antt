@@ -1,5 +1,5 @@
 -- `book::fragments_last` meets its contract, by the kind. Assumes nothing.
-use mathlib.Core.Path.{_∙_, sym, ap}
+use mathlib.Core.Path.{_∙_, sym}
 use borrow.Author.Tests.{eq-eqb, ne-eqb}
 use borrow.Author.Needs.{needs}
 use Rattle.book.proofs.fragments_last.Statement.{statement}

@@ -1,7 +1,7 @@
 -- `book::mask_of` meets its contract: the loop has the mask of the rules passed. Assumes nothing.
-use mathlib.Core.Path.{_≡_, refl, ap, sym, _∙_}
+use mathlib.Core.Path.{_≡_, refl, ap, _∙_}
 use mathlib.Core.List.{List}
-use Prim.Native.Nat.{ℕ, _-_, _*_, _≤_, _<_, _^_}
+use Prim.Native.Nat.{ℕ, _-_, _≤_, _<_, _^_}
 use native.Mathlib.Omega.{arith}
 use Rattle.book.specs.Tables.{maskOf}
 use Rattle.book.proofs.Steps.{mask-more, mask-below}

@@ -1,5 +1,5 @@
 -- `book::translate` meets its contract: the reader's answer, and the book of the reader's pages. Assumes nothing.
-use mathlib.Core.Path.{_≡_, refl, ap, sym, _∙_}
+use mathlib.Core.Path.{ap, _∙_}
 use Rattle.book.specs.Books.{bookFrom}
 use borrow.Author.Needs.{needs}
 use Rattle.book.proofs.translate.Statement.{statement}

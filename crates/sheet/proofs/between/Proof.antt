@@ -1,5 +1,4 @@
 -- `sheet::between` meets its contract: the field is read, then its value is tested. Assumes nothing.
-use native.Mathlib.Omega.{arith}
 use borrow.Author.Tests.{lt-ltb, le-ltb}
 use Rattle.sheet.proofs.Telling.{tested, tested-wrong, untested, stops}
 use borrow.Author.Needs.{needs}

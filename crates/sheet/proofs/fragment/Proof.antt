@@ -1,12 +1,12 @@
 -- `sheet::fragment` meets its contract: its join and its count are read and stored, and then its ranges are. Assumes nothing.
-use mathlib.Core.Path.{_≡_, refl, sym, ap, _∙_}
+use mathlib.Core.Path.{_≡_, _∙_}
 use mathlib.Core.Bool.{Bool}
 use mathlib.Core.List.{List}
-use Prim.Native.Nat.{ℕ, _+_, _*_, _≤_, _<_}
+use Prim.Native.Nat.{ℕ, _+_, _*_}
 use native.Mathlib.Omega.{arith}
-use lib.ListN.{length, set}
+use lib.ListN.{set}
 use Rattle.pattern.specs.Meaning.{Between}
-use Rattle.sheet.specs.Form.{Got, got, stopped, next, fieldAt, read}
+use Rattle.sheet.specs.Form.{got, stopped, next, fieldAt, read}
 use Rattle.sheet.specs.Reading.{outside, joinOf, ranges, fragment}
 use Rattle.sheet.specs.Told.{Told, right, wrong, RangesShown, FragmentShown}
 use Rattle.sheet.proofs.Parts.{join-number, ranges-length, read-fragment}

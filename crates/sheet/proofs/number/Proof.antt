@@ -1,10 +1,10 @@
 -- `sheet::number` meets its contract: from the last byte down, x is the number of the bytes passed. Assumes nothing.
-use mathlib.Core.Path.{_≡_, refl, sym, ap, _∙_}
+use mathlib.Core.Path.{_≡_}
 use mathlib.Core.List.{List}
 use Prim.Native.Nat.{ℕ, suc, _+_, _-_, _*_, _^_, _<_, _≤_}
 use native.Mathlib.Nat.{pow-le-pow-right}
 use native.Mathlib.Omega.{arith}
-use lib.ListN.{length, getD}
+use lib.ListN.{getD}
 use Rattle.sheet.specs.Form.{number}
 use Rattle.sheet.specs.Told.{Value}
 use Rattle.sheet.proofs.Fields.{bytes-of, number-small}

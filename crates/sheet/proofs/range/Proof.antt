@@ -1,12 +1,12 @@
 -- `sheet::range` meets its contract: its three fields are read, and then its word is stored. Assumes nothing.
-use mathlib.Core.Path.{_≡_, refl, sym, ap, _∙_}
+use mathlib.Core.Path.{_≡_, refl, _∙_}
 use mathlib.Core.Bool.{Bool}
 use mathlib.Core.List.{List}
-use Prim.Native.Nat.{ℕ, _<_}
+use Prim.Native.Nat.{ℕ}
 use native.Mathlib.Omega.{arith}
-use Rattle.sheet.specs.Form.{Got, got, stopped, fieldAt, read}
+use Rattle.sheet.specs.Form.{got, stopped, fieldAt, read}
 use Rattle.sheet.specs.Reading.{nameFault, below, range}
-use Rattle.sheet.specs.Told.{Told, right}
+use Rattle.sheet.specs.Told.{right}
 use Rattle.sheet.proofs.Values.{with-name}
 use Rattle.sheet.proofs.Telling.{passed, heard-number}
 use borrow.Author.Needs.{needs}

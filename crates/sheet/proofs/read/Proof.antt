@@ -1,5 +1,5 @@
 -- `sheet::read` meets its contract: the first fault is told as it was found, then bytes left over, and else the tables are the sheet's. Assumes nothing.
-use mathlib.Core.Path.{_≡_, refl, sym, ap, _∙_}
+use mathlib.Core.Path.{_≡_, sym, ap, _∙_}
 use mathlib.Core.List.{List}
 use Prim.Native.Nat.{ℕ, _≤_, _<_}
 use native.Mathlib.Omega.{arith}
@@ -9,7 +9,7 @@ use Rattle.sheet.specs.Layout.{Sheet}
 use Rattle.sheet.specs.Form.{got, stopped, read}
 use Rattle.sheet.specs.Reading.{sheet, Outcome, accepted, refused, readSheet}
 use Rattle.sheet.specs.Pages.{headTable, fragmentTable, rangeTable}
-use Rattle.sheet.specs.Told.{Told, right, wrong, SheetShown}
+use Rattle.sheet.specs.Told.{SheetShown}
 use Rattle.sheet.specs.Answers.{answerOf, pagesOf, Reads}
 use Rattle.sheet.specs.declared.Pages.{Pages}
 use Rattle.sheet.specs.declared.Answer.the-variants.{Accepted, Refused}

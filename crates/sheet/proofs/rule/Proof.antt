@@ -1,14 +1,14 @@
 -- `sheet::rule` meets its contract: header, P and Q are read, and the trigger's fragment, where there is a trigger, stands after P's. Assumes nothing.
 use mathlib.Core.Path.{_≡_, refl, sym, ap, _∙_}
 use mathlib.Core.Bool.{true, false}
-use mathlib.Core.List.{List, [], _∷_, _++_}
-use Prim.Native.Nat.{ℕ, zero, suc, _+_, _*_, _≤_, _<_}
+use mathlib.Core.List.{List, [], _∷_}
+use Prim.Native.Nat.{ℕ, zero, suc, _+_, _*_}
 use native.Mathlib.Omega.{arith}
 use lib.ListN.{length, set}
-use Rattle.pattern.specs.Meaning.{Fragment, orderingNames, Rule}
-use Rattle.pattern.specs.Model.{lastFragments, roundOf}
+use Rattle.pattern.specs.Meaning.{Fragment, orderingNames}
+use Rattle.pattern.specs.Model.{lastFragments}
 use Rattle.names.specs.Names.{insertAll}
-use Rattle.sheet.specs.Layout.{Header, headerOf, Bytes}
+use Rattle.sheet.specs.Layout.{Header, Bytes}
 use Rattle.sheet.specs.Form.{got, stopped, next, read}
 use Rattle.sheet.specs.Reading.{kindOf, header, fragments, rule}
 use Rattle.sheet.specs.Pages.{fill, headerWord, putFragment, putRanges, triggerFragments}

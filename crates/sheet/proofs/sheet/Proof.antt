@@ -1,12 +1,12 @@
 -- `sheet::sheet` meets its contract: the header's four fields and the rules are read one after the other. Assumes nothing.
 use mathlib.Core.Path.{_≡_, refl, sym, _∙_}
 use mathlib.Core.List.{List}
-use Prim.Native.Nat.{ℕ, _^_}
+use Prim.Native.Nat.{ℕ}
 use native.Mathlib.Omega.{arith}
 use lib.ListN.{length}
 use Rattle.pattern.specs.Meaning.{Rule}
-use Rattle.sheet.specs.Form.{got, stopped, next, fieldAt, read}
-use Rattle.sheet.specs.Reading.{markFault, versionFault, noFault, rulesFault, rule, rules, sheet}
+use Rattle.sheet.specs.Form.{got, stopped, fieldAt, read}
+use Rattle.sheet.specs.Reading.{markFault, versionFault, noFault, rulesFault, rules, sheet}
 use Rattle.sheet.specs.Told.{right}
 use Rattle.sheet.proofs.Forms.{several-length}
 use Rattle.sheet.proofs.Acceptance.{read-sheet}

@@ -1,6 +1,5 @@
 -- `sheet::trigger_fragment` meets its contract. Assumes nothing.
-use mathlib.Core.Path.{refl, _∙_, sym}
-use native.Mathlib.Omega.{arith}
+use mathlib.Core.Path.{refl}
 use borrow.Author.Tests.{eq-eqb, ne-eqb}
 use borrow.Author.Needs.{needs}
 use Rattle.sheet.proofs.trigger_fragment.Statement.{statement}

@@ -1,6 +1,5 @@
 -- `sheets::tell_all` is safe and ends: the offset stays inside the input and grows. Assumes nothing.
-use Prim.Native.Nat.{_≤_, _+_, _-_}
-use native.Mathlib.Omega.{arith}
+use Prim.Native.Nat.{_≤_, _-_}
 use lib.ListN.{length}
 use borrow.Author.Needs.{needs}
 use Rattle.sheets.proofs.tell_all.Statement.{statement}

@@ -1,6 +1,5 @@
 -- `sheets::tell_prefixes` is safe and ends: n goes from a to one past e. Assumes nothing.
 use Prim.Native.Nat.{_≤_, _+_, _-_}
-use native.Mathlib.Omega.{arith}
 use borrow.Author.Needs.{needs}
 use Rattle.sheets.proofs.tell_prefixes.Statement.{statement}
 use Rattle.sheets.proofs.tell_prefixes.Tie as tie
