@@ -1,0 +1,41 @@
+-- What a session promises, in the words of the monitor part's promises.
+-- Assumes nothing.
+use mathlib.Core.Path.{_≡_}
+use mathlib.Core.List.{List, [], _∷_, map}
+use Prim.Native.Nat.{ℕ}
+use lib.ListN.{length}
+use Rattle.pattern.specs.Judge.{Oracle, Right, nothing, judgeKeeps}
+use Rattle.pattern.specs.Judge as J
+use Rattle.sheet.specs.Layout.{Sheet}
+use Rattle.book.specs.Books.{Translates}
+use Rattle.book.specs.declared.Book.{Book}
+use Rattle.monitor.specs.Promise.{said, seen, Says, ObservesLent, Freshes, CodeAgreement}
+use Rattle.monitor.specs.declared.Monitor.{Monitor}
+use Rattle.monitor.specs.declared.Observation.{Observation}
+use Rattle.monitor.specs.declared.Answer.{Answer}
+use Rattle.session.specs.declared.Opened.{Opened}
+
+-- ---- the calls
+
+-- opening from these bytes: the reader's answer and an accepted sheet's book, as translating promises; and a fresh monitor for that book
+pub record Opens (bytes : List ℕ) (r : Opened) : Type 0 where
+  pub translates : Translates bytes (record { answer = r .answer; book = r .book })
+  pub freshes : Freshes (r .book .fragments) (r .monitor)
+
+-- one observation in place: the monitor before the call, the observation, the monitor that the call leaves and its answer are such as the monitor part promises by value
+abbrev pub ObservesInPlace : List ℕ → List ℕ → List ℕ → List ℕ → List ℕ → Monitor → Observation → Monitor → Answer → Type 0
+ObservesInPlace heads fragments names ranges holders before o after answer = ObservesLent heads fragments names ranges holders before o (record { monitor = after; answer = answer })
+
+-- ---- a session
+
+-- one call after the other, all lent the same book's arrays, each on the monitor that the last one left in place; `ObservesInPlace` is all that a call promises
+pub data Session (b : Book) : Monitor → List Observation → List Answer → Monitor → Type 0 where
+  none : {m : Monitor} → Session b m [] [] m
+  call : {m next last : Monitor} {o : Observation} {os : List Observation} {a : Answer} {as′ : List Answer}
+      → ObservesInPlace (b .heads) (b .fragments) (b .names) (b .ranges) (b .holders) m o next a → Session b next os as′ last → Session b m (o ∷ os) (a ∷ as′) last
+
+-- demand 3 for a session: its answers, its count and its verdict are the judge's; and so is what the calls `taken` and `verdict` then answer
+pub record SessionAgreement (S : Sheet) (os : List Observation) (as′ : List Answer) (last : Monitor) : Type 0 where
+  pub agrees : CodeAgreement S os as′ last
+  pub counts : (oracle : Oracle) → Right (S .rules) oracle → (n : ℕ) → n ≡ last .taken → n ≡ length (judgeKeeps oracle nothing (map seen os) .taken)
+  pub says : (oracle : Oracle) → Right (S .rules) oracle → (a : Answer) → Says a last → said a ≡ J.verdict (judgeKeeps oracle nothing (map seen os) .verdict)

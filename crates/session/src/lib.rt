@@ -1,0 +1,70 @@
+// A host's session (document 01, "Observing"): one monitor, lent to the guard and changed in place. Each call takes the state out, calls the monitor part by value and puts what it returns back; it rests on that part's promises alone.
+ghost use mathlib.Core.Path.{_≡_};
+ghost use Rattle.monitor.specs.Promise.{Freshes, Says};
+ghost use Rattle.session.specs.Session.{Opens, ObservesInPlace};
+use monitor::Answer;
+use monitor::Monitor;
+use monitor::Observation;
+
+// What opening a session from a sheet's bytes gives: the reader's answer, the book, and a fresh monitor for it.
+pub struct Opened {
+    pub answer: sheet::Answer,
+    pub book: book::Book,
+    pub monitor: Monitor,
+}
+
+// Reads a sheet from any bytes, translates it and makes a fresh monitor for its book. The book and the monitor that come with a refusal are the program's choice.
+pub fn open_sheet(bytes: &[u8]) -> Opened
+    ensures { λ r. ⌜ Opens (now (bytes .entry)) r ⌝ }
+{
+    let t = book::translate(bytes);
+    let answer = t.answer;
+    let book = t.book;
+    let monitor = monitor::fresh(&book.fragments);
+    Opened {
+        answer: answer,
+        book: book,
+        monitor: monitor,
+    }
+}
+
+// Puts a fresh monitor for the book whose fragments are lent in the place of whatever stands there.
+pub fn start(m: &mut Monitor, fragments: &[u16; 256])
+    ensures { λ _. ⌜ Freshes (now (fragments .entry)) (now (m .exit)) ⌝ }
+{
+    *m = monitor::fresh(fragments);
+}
+
+// One observation of the session's monitor under the book whose arrays are lent: the judge's answer, and the monitor is left as one that follows what the judge then keeps. A refused observation leaves it equal.
+// For arrays or a monitor that these calls did not make, or a monitor opened for another book, the answer is the program's choice; the call returns, and touches nothing but the monitor.
+pub fn observe<'a>(
+    m: &mut Monitor,
+    heads: &'a [u64; 16],
+    fragments: &'a [u16; 256],
+    names: &'a [u64; 256],
+    ranges: &'a [u64; 2048],
+    holders: &'a [u16; 64],
+    o: Observation,
+) -> Answer
+    ensures { λ r. ⌜ ObservesInPlace (now (heads .entry)) (now (fragments .entry)) (now (names .entry)) (now (ranges .entry)) (now (holders .entry)) (now (m .entry)) o (now (m .exit)) r ⌝ }
+{
+    let s = *m;
+    let r = monitor::observe(heads, fragments, names, ranges, holders, s, o);
+    *m = r.monitor;
+    r.answer
+}
+
+// The verdict that the session's monitor holds. It is read, and not changed.
+pub fn verdict(m: &Monitor) -> Answer
+    ensures { λ r. ⌜ Says r (now (m .entry)) ⌝ }
+{
+    let s = *m;
+    monitor::verdict(s)
+}
+
+// The number of observations that the session's monitor has taken. It is read, and not changed.
+pub fn taken(m: &Monitor) -> u32
+    ensures { λ r. ⌜ r ≡ now (m .entry) .taken ⌝ }
+{
+    m.taken
+}
