@@ -1,0 +1,166 @@
+-- A refused sheet's place fits a u32, however long the bytes are: reading goes no further than 10,894, since every count is held to its values before it is used.
+-- (An accepted sheet is shorter, for its names are distinct; here the crude bound serves.)
+-- Assumes nothing.
+use mathlib.Core.Path.{_≡_, refl, sym, subst}
+use mathlib.Core.Bool.{Bool, true, false, cond, not}
+use mathlib.Core.List.{List, [], _∷_}
+use Prim.Native.Nat.{ℕ, zero, suc, _+_, _*_, _≤_}
+use native.Mathlib.Nat.{suc-mul}
+use native.Mathlib.Omega.{arith}
+use lib.Dec.{ltb, eqb}
+use lib.ListN.{length}
+use borrow.Author.Tests.{ltb-false, eqb-true}
+use Rattle.pattern.specs.Meaning.{fragmentNames, orderingNames}
+use Rattle.names.specs.Names.{insertAll}
+use Rattle.sheet.specs.Layout.{Sheet, Header}
+use Rattle.sheet.specs.Form.{Form, done, _>>=_, ask, Got, got, stopped, next, number, unless, fieldAt, read}
+use Rattle.sheet.specs.Reading.{outside, dueZero, noFault, byKind, triggerFault, nameFault, below, several, rangeName, triggerSet, range, ranges, fragment, fragments, header, rule, rules, sheet, markFault, versionFault, rulesFault, accepted, refused, atEnd, readSheet}
+use Rattle.sheet.specs.Reading as R
+use Rattle.sheet.proofs.Forms.{read-bind}
+
+-- ---- how far a form is read
+
+-- a reading ends or stops no later than at an offset, and what it got is so
+abbrev Ends : {A : Type 0} → (A → Type 0) → ℕ → Got A → Type 0
+Ends P e (got a end) = (end ≤ e) × P a
+Ends P e (stopped k place) = place ≤ e
+
+abbrev Any : {A : Type 0} → A → Type 0
+Any x = Unit {0}
+
+-- the place of a refusal is so
+abbrev pub Near : R.Outcome → Type 0
+Near (accepted S) = Unit {0}
+Near (refused k place) = place ≤ 10894
+
+module _ (s : List ℕ) where
+  -- a form takes at most n bytes, wherever it is read
+  record Within {A : Type 0} (P : A → Type 0) (n : ℕ) (f : Form A) : Type 0 where
+    reads : (at e : ℕ) → at + n ≤ e → Ends P e (read s f at)
+
+  ended : {A : Type 0} {P : A → Type 0} (a : A) → P a → Within P 0 (done a)
+  ended a p = record { reads = λ at e h. (omega arith, p) }
+
+  later : {A : Type 0} {P : A → Type 0} {n m : ℕ} {f : Form A} → n ≤ m → Within P n f → Within P m f
+  later l w = record { reads = λ at e h. w .reads at e (omega arith) }
+
+  then : {A B : Type 0} {P : A → Type 0} {Q : B → Type 0} {n m : ℕ} (f : Form A) {g : A → Form B} → Within P n f → ((a : A) → P a → Within Q m (g a)) → Within Q (n + m) (f >>= g)
+  then {A = A} {P = P} {Q = Q} {n = n} {m = m} f {g = g} w v = record { reads = λ at e h. subst (Ends Q e) (sym (read-bind s f g at)) (go at e h (read s f at) (w .reads at (at + n) (omega arith))) }
+    where
+      go : (at e : ℕ) → at + (n + m) ≤ e → (r : Got A) → Ends P (at + n) r → Ends Q e (next r (λ a. read s (g a)))
+      go at e h (got a end) (l, p) = v a p .reads end e (omega arith)
+      go at e h (stopped k place) l = omega arith
+
+  asked : {P : ℕ → Type 0} (n : ℕ) (fault : ℕ → ℕ) → ((x : ℕ) → fault x ≡ 0 → P x) → Within P n (ask n fault)
+  unfolding fieldAt
+  asked {P = P} n fault right = record { reads = λ at e h. look at e h (ltb (length s) (at + n)) }
+    where
+      value : (at e : ℕ) → at + n ≤ e → (k : ℕ) → fault (number s n at) ≡ k → Ends P e (next (unless s k (number s n at) (at + n) at) (λ x. read s (done x)))
+      value at e h zero q = (h, right (number s n at) q)
+      value at e h (suc k) q = omega arith
+
+      look : (at e : ℕ) → at + n ≤ e → (t : Bool) → Ends P e (next (cond t (stopped 1 at) (unless s (fault (number s n at)) (number s n at) (at + n) at)) (λ x. read s (done x)))
+      look at e h true = omega arith
+      look at e h false = value at e h (fault (number s n at)) refl
+
+  -- whatever its value
+  taken : (n : ℕ) (fault : ℕ → ℕ) → Within Any n (ask n fault)
+  taken n fault = asked n fault (λ x e. tt {0})
+
+  module _ {A : Type 0} (n : ℕ) (one : ℕ → Form A) (names : A → List ℕ) (w : (used : ℕ) → Within Any n (one used)) where
+    each-within : (count used : ℕ) → Within Any (count * n) (several one names used count)
+    unfolding several
+    each-within zero used = later (omega arith) (ended [] tt)
+    each-within (suc count) used =
+        later {n = n + (count * n + 0)} (simp (suc-mul) (omega arith))
+        (then (one used) (w used) (λ x p. then (several one names (insertAll used (names x)) count) (each-within count (insertAll used (names x))) (λ xs q. ended (x ∷ xs) tt)))
+
+  few : (least most x : ℕ) → outside least most x ≡ 0 → x ≤ most
+  few least most x e = ltb-false most x (look (ltb x least) (ltb most x) e)
+    where
+      look : (a b : Bool) → _≡_ {A = ℕ} (cond a 4 (cond b 4 0)) 0 → b ≡ false
+      look true b q = absurd (omega arith)
+      look false true q = absurd (omega arith)
+      look false false q = refl
+
+  none : (x : ℕ) → dueZero x ≡ 0 → x ≤ 8
+  none x e = look (eqb x 0) refl e
+    where
+      look : (t : Bool) → eqb x 0 ≡ t → _≡_ {A = ℕ} (cond (not t) 5 0) 0 → x ≤ 8
+      look true q h = omega (arith, eqb-true x 0 q)
+      look false q h = absurd (omega arith)
+
+  module _ (outputs : ℕ) where
+    range-within : (ofQ : Bool) (used : ℕ) → Within Any 5 (range outputs ofQ used)
+    unfolding range
+    range-within ofQ used =
+        then (ask 1 (nameFault outputs ofQ used)) (taken 1 (nameFault outputs ofQ used))
+        (λ n p. then (ask 2 (below 1)) (taken 2 (below 1))
+        (λ u q. then (ask 2 (below u)) (taken 2 (below u)) (λ v r. ended (record { name = n; u = u; v = v }) tt)))
+
+    fragment-within : (ofQ : Bool) (used : ℕ) → Within Any 42 (fragment outputs ofQ used)
+    unfolding fragment ranges
+    fragment-within ofQ used =
+        then (ask 1 (outside 0 1)) (taken 1 (outside 0 1))
+        (λ j p. then (ask 1 (outside 1 8)) (asked 1 (outside 1 8) (few 1 8))
+        (λ n q. then (ranges outputs ofQ used n) (later {n = n * 5} {m = 40} (omega (arith, q)) (each-within 5 (range outputs ofQ) rangeName (range-within ofQ) n used))
+        (λ rs r. ended _ tt)))
+
+    fragments-within : (ofQ : Bool) (n used : ℕ) → n ≤ 8 → Within Any 336 (fragments outputs ofQ used n)
+    unfolding fragments
+    fragments-within ofQ n used h = later {n = n * 42} (omega arith) (each-within 42 (fragment outputs ofQ) fragmentNames (fragment-within ofQ) n used)
+
+    q-few : (k x : ℕ) → byKind k (outside 1 8) dueZero x ≡ 0 → x ≤ 8
+    q-few k x e = look (eqb k 2) e
+      where
+        look : (t : Bool) → cond t (outside 1 8) dueZero x ≡ 0 → x ≤ 8
+        look true h = few 1 8 x h
+        look false h = none x h
+
+    abbrev Counted : Header → Type 0
+    Counted h = (h .countP ≤ 8) × (h .countQ ≤ 8)
+
+    header-within : Within Counted 8 (header outputs)
+    unfolding header
+    header-within =
+        then (ask 1 (outside 0 2)) (taken 1 (outside 0 2))
+        (λ k a. then (ask 1 (outside 1 8)) (asked 1 (outside 1 8) (few 1 8))
+        (λ p b. then (ask 1 (byKind k (outside 1 8) dueZero)) (asked 1 (byKind k (outside 1 8) dueZero) (q-few k))
+        (λ q c. then (ask 1 (byKind k dueZero (triggerFault outputs))) (taken 1 (byKind k dueZero (triggerFault outputs)))
+        (λ i d. then (ask 4 (byKind k noFault dueZero)) (taken 4 (byKind k noFault dueZero))
+        (λ t f. ended (record { kind = k; countP = p; countQ = q; trigger = i; time = t }) (b, c))))))
+
+    rule-within : Within Any 680 (rule outputs)
+    unfolding rule
+    rule-within =
+        then (header outputs) header-within
+        (λ h c. then (fragments outputs false (triggerSet h) (h .countP)) (fragments-within false (h .countP) (triggerSet h) (c .0))
+        (λ p a. then (fragments outputs true (insertAll (triggerSet h) (orderingNames p)) (h .countQ)) (fragments-within true (h .countQ) (insertAll (triggerSet h) (orderingNames p)) (c .1))
+        (λ q b. ended _ tt)))
+
+    rules-within : (n : ℕ) → n ≤ 16 → Within Any 10880 (rules outputs n)
+    unfolding rules
+    rules-within n h = later {n = n * 680} (omega arith) (each-within 680 (λ _. rule outputs) (λ _. []) (λ _. rule-within) n 0)
+
+  sheet-within : Within Any 10894 sheet
+  unfolding sheet
+  sheet-within =
+      then (ask 3 markFault) (taken 3 markFault)
+      (λ m a. then (ask 2 versionFault) (taken 2 versionFault)
+      (λ v b. then (ask 8 noFault) (taken 8 noFault)
+      (λ o c. then (ask 1 rulesFault) (asked 1 rulesFault (few 1 16))
+      (λ n d. then (rules o n) (rules-within o n d) (λ rs f. ended (record { outputs = o; rules = rs }) tt)))))
+
+  -- ---- the place of a refusal
+
+  pub near : Near (readSheet s)
+  unfolding readSheet
+  near = go (read s sheet 0) (sheet-within .reads 0 10894 (omega arith))
+    where
+      go : (r : Got Sheet) → Ends Any 10894 r → Near (atEnd s r)
+      go (got S end) (l, p) = look (ltb end (length s))
+        where
+          look : (t : Bool) → Near (cond t (refused 10 end) (accepted S))
+          look true = l
+          look false = tt
+      go (stopped k place) l = l

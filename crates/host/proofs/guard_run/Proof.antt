@@ -1,0 +1,24 @@
+-- `host::guard_run` keeps its promise: the output first, then the five numbers. Assumes nothing.
+use Rattle.host.proofs.Outcomes.{too-short, written}
+use borrow.Author.Needs.{needs}
+use Rattle.host.proofs.guard_run.Statement.{statement}
+use Rattle.host.proofs.guard_run.Tie as tie
+
+returns : tie.Need-returns
+returns c = too-short (c .before .before .before .before .args .sheet .now) (c .before .before .before .before .args .log .now) (c .before .before .before .before .args .budget) (c .before .before .before .before .args .out .now) (c .if1 .taken)
+
+outcome-requires : tie.Need-outcome-requires
+outcome-requires c κs = search needs
+
+put-outcome-requires : tie.Need-put-outcome-requires
+put-outcome-requires c κs = search needs
+
+same-length : tie.Need-same-length
+same-length c = search needs
+
+returns-2 : tie.Need-returns-2
+returns-2 c = written (c .before .before .before .before .before .before .before .before .before .args .sheet .now) (c .before .before .before .before .before .before .before .before .before .args .log .now) (c .before .before .before .before .before .before .before .before .before .args .budget) (c .before .before .before .before .before .before .before .before .before .args .out .now) _ (c .before .before .before .before .before .if1 .left) (c .before .before .before .before .outcome .ensures) (c .before .before .put-outcome .ensures)
+
+pub guard-run-spec : {M : Type 1} → statement M
+guard-run-spec =
+    tie.close (tie.spec returns outcome-requires put-outcome-requires same-length returns-2)

@@ -1,0 +1,44 @@
+-- `host::outcome` keeps its promise, by the reader's answer. The place of a refusal fits a u32, however long the sheet is. Assumes nothing.
+use native.Mathlib.Omega.{arith}
+use Rattle.sheet.proofs.Fields.{bytes-of}
+use Rattle.host.proofs.Outcomes.{place-fits, sheet-refused, sheet-accepted}
+use borrow.Author.Needs.{needs}
+use Rattle.host.proofs.outcome.Statement.{statement}
+use Rattle.host.proofs.outcome.Tie as tie
+
+translate-requires : tie.Need-translate-requires
+translate-requires c κs = search needs
+
+enum-told : tie.Need-enum-told
+enum-told c = search needs
+
+run-requires : tie.Need-run-requires
+run-requires c κs = search needs
+
+enum-known-answer : tie.Need-enum-known-answer
+enum-known-answer c = search needs
+
+cast-turned-away : tie.Need-cast-turned-away
+cast-turned-away c = omega (arith, place-fits (c .before .before .before .before .before .before .args .sheet .now) (bytes-of (c .before .before .before .before .before .before .args .sheet .now) (λ i. c .before .before .before .before .before .shared-slice-known .given i .fits)) (c .before .before .before .translate .result) (c .before .before .before .translate .ensures) (c .before .answer .given .1))
+
+turned-away-requires : tie.Need-turned-away-requires
+turned-away-requires c κs = search needs
+
+returns : tie.Need-returns
+returns c = sheet-accepted (c .before .before .before .before .before .before .before .before .before .before .before .before .before .args .sheet .now) (bytes-of (c .before .before .before .before .before .before .before .before .before .before .before .before .before .args .sheet .now) (λ i. c .before .before .before .before .before .before .before .before .before .before .before .before .shared-slice-known .given i .fits)) (c .before .before .before .before .before .before .before .before .before .before .translate .result) (c .before .before .before .before .before .before .before .before .before .before .translate .ensures) (c .before .before .before .before .before .before .before .before .before .before .before .before .before .args .log .now) (c .before .before .before .before .before .before .before .before .before .before .before .before .before .args .budget) (c .run .result) (c .before .before .before .before .before .before .before .before .before .match .keys1) (c .run .ensures)
+
+returns-2 : tie.Need-returns-2
+returns-2 c = sheet-refused (c .before .before .before .before .before .before .before .args .sheet .now) (bytes-of (c .before .before .before .before .before .before .before .args .sheet .now) (λ i. c .before .before .before .before .before .before .shared-slice-known .given i .fits)) (c .before .before .before .before .translate .result) (c .before .before .before .before .translate .ensures) (c .before .before .before .before .before .before .before .args .log .now) (c .before .before .before .before .before .before .before .args .budget) (c .turned-away .result) (c .before .before .answer .given .1) (c .turned-away .ensures)
+
+pub outcome-spec : {M : Type 1} → statement M
+outcome-spec =
+    tie.close
+    (tie.spec
+    translate-requires
+    enum-told
+    run-requires
+    enum-known-answer
+    cast-turned-away
+    turned-away-requires
+    returns
+    returns-2)

@@ -1,0 +1,112 @@
+-- What a record's bytes, a monitor's verdict and an observation's answer say. Assumes nothing.
+use mathlib.Core.Path.{_≡_, refl, sym, _∙_, ap, ap₂, subst}
+use mathlib.Core.Logic.{_⊎_, ⊎-elim}
+use mathlib.Core.Bool.{true, false}
+use mathlib.Core.List.{List}
+use Prim.Native.Nat.{ℕ, _+_, _*_}
+use native.Mathlib.Omega.{arith}
+use lib.ListN.{getD}
+use denote.Enum.Declared.{tagOf}
+use Rattle.pattern.specs.Judge.{Verdict, allWhole, Oracle, Right, Kept, judge}
+use Rattle.pattern.specs.Judge as J
+use Rattle.sheet.specs.Form.{number}
+use Rattle.sheet.specs.Layout.{Sheet}
+use Rattle.book.specs.declared.Book.{Book}
+use Rattle.monitor.specs.declared.Monitor.{Monitor}
+use Rattle.monitor.specs.declared.Observation.{Observation}
+use Rattle.monitor.specs.declared.Answer.{Answer}
+use Rattle.monitor.specs.declared.Answer.the-variants.{Whole, Open, Broken, Refused}
+use Rattle.monitor.proofs.Answer.{the-type}
+use Rattle.monitor.specs.declared.Observed.{Observed}
+use Rattle.monitor.specs.Promise.{said, seen, verdictIn, Says, Follows, Lends, ObservesLent}
+use Rattle.monitor.proofs.Agreement.{follows-taken, follows-verdict}
+use Rattle.runner.specs.Log.{ended, openMask, refusedAt, stops, stoppedBy}
+use Rattle.runner.specs.Runs.{Turns, TurnsLent, endedIn}
+use Rattle.runner.specs.declared.Turned.{Turned}
+
+-- four bytes, two by two
+pub four : (s : List ℕ) (at : ℕ) → number s 4 at ≡ getD s at 0 + 256 * getD s (at + 1) 0 + 65536 * (getD s (at + 2) 0 + 256 * getD s (at + 3) 0)
+unfolding number
+four s at =
+    let two : at + 1 + 1 ≡ at + 2 = omega arith in
+    let three : at + 2 + 1 ≡ at + 3 = omega arith in
+    rw (two, three) (omega arith)
+
+-- ---- a verdict that is told as an answer
+
+abbrev inside : J.Answer → Verdict
+inside (J.verdict v) = v
+inside (J.refused n) = allWhole
+
+pub says-ended : (m : Monitor) {a b : Answer} → Says a m → a ≡ b → ended (inside (said b)) (m .taken) ≡ endedIn m
+says-ended m says e = ap (λ (x : Answer). ended (inside (said x)) (m .taken)) (sym e) ∙ ap (λ (x : J.Answer). ended (inside x) (m .taken)) says
+
+pub says-open : (m : Monitor) {a b : Answer} → Says a m → a ≡ b → openMask (inside (said b)) ≡ openMask (verdictIn m)
+says-open m says e = ap (λ (x : Answer). openMask (inside (said x))) (sym e) ∙ ap (λ (x : J.Answer). openMask (inside x)) says
+
+-- an arm that names no variant: the answer is one of those left
+
+abbrev variant : Answer → ℕ
+variant a = tagOf the-type a
+
+all-whole : (a : Answer) → (variant a ≡ 0) ⊎ (variant a ≡ 3) → inside (said a) ≡ allWhole
+all-whole Whole h = refl
+all-whole (Open x) h = absurd (⊎-elim (λ e. omega arith) (λ e. omega arith) h)
+all-whole (Broken k x) h = absurd (⊎-elim (λ e. omega arith) (λ e. omega arith) h)
+all-whole (Refused n) h = refl
+
+pub says-whole : (m : Monitor) (a : Answer) → Says a m → (variant a ≡ 0) ⊎ (variant a ≡ 3) → ended allWhole (m .taken) ≡ endedIn m
+says-whole m a says h = ap (λ (v : Verdict). ended v (m .taken)) (sym (all-whole a h)) ∙ says-ended m {a = a} says refl
+
+none-open : (a : Answer) → (variant a ≡ 0) ⊎ ((variant a ≡ 2) ⊎ (variant a ≡ 3)) → openMask (inside (said a)) ≡ 0
+none-open Whole h = refl
+none-open (Open x) h = absurd (⊎-elim (λ e. omega arith) (⊎-elim (λ e. omega arith) (λ e. omega arith)) h)
+none-open (Broken k x) h = refl
+none-open (Refused n) h = refl
+
+pub says-none : (m : Monitor) (a : Answer) → Says a m → (variant a ≡ 0) ⊎ ((variant a ≡ 2) ⊎ (variant a ≡ 3)) → 0 ≡ openMask (verdictIn m)
+says-none m a says h = sym (none-open a h) ∙ says-open m {a = a} says refl
+
+goes : (a : Answer) → (variant a ≡ 0) ⊎ (variant a ≡ 1) → stops (said a) ≡ false
+goes Whole h = refl
+goes (Open x) h = refl
+goes (Broken k x) h = absurd (⊎-elim (λ e. omega arith) (λ e. omega arith) h)
+goes (Refused n) h = absurd (⊎-elim (λ e. omega arith) (λ e. omega arith) h)
+
+-- ---- one observation's answer
+
+module _ {heads fragments names ranges holders : List ℕ} {m : Monitor} {o : Observation} {s : Observed} (observes : ObservesLent heads fragments names ranges holders m o s) (at : ℕ) (t : Turned)
+    (same : t .monitor ≡ s .monitor) where
+  -- what is known of a turn, whatever the answer
+  module _ (b : Book) (lent : Lends heads fragments names ranges holders b) (S : Sheet) (k : Kept) (f : Follows S k b m) (oracle : Oracle) (right : Right (S .rules) oracle) where
+    answered : said (s .answer) ≡ judge oracle k (seen o) .answer
+    answered = observes b lent .answers S k f oracle right
+
+    followed : Follows S (judge oracle k (seen o) .kept) b (s .monitor)
+    followed = observes b lent .follows S k f oracle right
+
+    abbrev after : Kept
+    after = judge oracle k (seen o) .kept
+
+    turns : (a : Answer) → s .answer ≡ a → t .stops ≡ stops (said a) → (t .stops ≡ true → t .outcome ≡ stoppedBy (said a) k after at) → Turns oracle S k b (seen o) at t
+    turns a e st says = record {
+      stops′ = st ∙ ap stops (ap said (sym e) ∙ answered);
+      says = λ h. says h ∙ ap (λ (x : J.Answer). stoppedBy x k after at) (ap said (sym e) ∙ answered);
+      follows = subst (Follows S after b) (sym same) followed;
+    }
+
+  never : {A : Type 0} → false ≡ true → A
+  never e = let z : _≡_ {A = ℕ} 0 1 = cc in absurd (omega arith)
+
+  pub turn-goes : (variant (s .answer) ≡ 0) ⊎ (variant (s .answer) ≡ 1) → t .stops ≡ false → TurnsLent heads fragments names ranges holders m o at t
+  turn-goes h st b lent S k f oracle right = turns b lent S k f oracle right (s .answer) refl (st ∙ sym (goes (s .answer) h)) (λ e. never (sym st ∙ e))
+
+  pub turn-broken : {j x : ℕ} → s .answer ≡ Broken j x → t .stops ≡ true → t .outcome ≡ ended (J.brokenAt j x) (s .monitor .taken) → TurnsLent heads fragments names ranges holders m o at t
+  turn-broken {j} {x} e st says b lent S k f oracle right =
+      turns b lent S k f oracle right (Broken j x) e st
+      (λ h. says ∙ ap (ended (J.brokenAt j x)) (follows-taken S (judge oracle k (seen o) .kept) b (s .monitor) (followed b lent S k f oracle right)))
+
+  pub turn-refused : {n : ℕ} → s .answer ≡ Refused n → t .stops ≡ true → t .outcome ≡ refusedAt n (verdictIn m) (m .taken) at → TurnsLent heads fragments names ranges holders m o at t
+  turn-refused {n} e st says b lent S k f oracle right =
+      turns b lent S k f oracle right (Refused n) e st
+      (λ h. says ∙ ap₂ (λ (v : Verdict) (c : ℕ). refusedAt n v c at) (follows-verdict S k b m f) (follows-taken S k b m f))

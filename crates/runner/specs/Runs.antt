@@ -1,0 +1,46 @@
+-- What the runner's calls promise: `Runs` is the run's own promise, the others are its parts.
+-- Assumes nothing.
+use mathlib.Core.Path.{_≡_}
+use mathlib.Core.Bool.{true}
+use mathlib.Core.List.{List}
+use Prim.Native.Nat.{ℕ}
+use Rattle.pattern.specs.Judge.{Oracle, Right, Kept, nothing, judge}
+use Rattle.pattern.specs.Judge as J
+use Rattle.sheet.specs.Layout.{Sheet, WellFormedSheet}
+use Rattle.book.specs.Looks.{Looks}
+use Rattle.book.specs.declared.Book.{Book}
+use Rattle.monitor.specs.declared.Monitor.{Monitor}
+use Rattle.monitor.specs.declared.Observation.{Observation}
+use Rattle.monitor.specs.Promise.{seen, verdictIn, Lends, Follows}
+use Rattle.runner.specs.Log.{ended, stops, stoppedBy, play, runOf}
+use Rattle.runner.specs.declared.Outcome.{Outcome}
+use Rattle.runner.specs.declared.Turned.{Turned}
+
+-- ---- the promise of a run: for the book of a well-formed sheet, whatever judge. Of other arrays the outcome is the program's choice
+abbrev pub Runs : List ℕ → List ℕ → List ℕ → List ℕ → List ℕ → List ℕ → ℕ → Outcome → Type 0
+Runs heads fragments names ranges holders log budget r =
+    (S : Sheet) (b : Book) → WellFormedSheet S → Looks S b → Lends heads fragments names ranges holders b
+    → (oracle : Oracle) → Right (S .rules) oracle → r ≡ runOf oracle log budget
+
+-- the same of the records alone, n of them
+abbrev pub Plays : List ℕ → List ℕ → List ℕ → List ℕ → List ℕ → List ℕ → ℕ → Outcome → Type 0
+Plays heads fragments names ranges holders log n r =
+    (S : Sheet) (b : Book) → WellFormedSheet S → Looks S b → Lends heads fragments names ranges holders b
+    → (oracle : Oracle) → Right (S .rules) oracle → r ≡ play oracle log nothing 0 n
+
+-- ---- one record
+
+-- whether the judge's answer stops the run, and with what; the monitor follows what the judge then keeps
+pub record Turns (oracle : Oracle) (S : Sheet) (k : Kept) (b : Book) (o : J.Observation) (at : ℕ) (r : Turned) : Type 0 where
+  pub stops′ : r .stops ≡ stops (judge oracle k o .answer)
+  pub says : r .stops ≡ true → r .outcome ≡ stoppedBy (judge oracle k o .answer) k (judge oracle k o .kept) at
+  pub follows : Follows S (judge oracle k o .kept) b (r .monitor)
+
+abbrev pub TurnsLent : List ℕ → List ℕ → List ℕ → List ℕ → List ℕ → Monitor → Observation → ℕ → Turned → Type 0
+TurnsLent heads fragments names ranges holders m o at r =
+    (b : Book) → Lends heads fragments names ranges holders b → (S : Sheet) (k : Kept) → Follows S k b m
+    → (oracle : Oracle) → Right (S .rules) oracle → Turns oracle S k b (seen o) at r
+
+-- what a monitor says, once nothing more is looked at
+abbrev pub endedIn : Monitor → Outcome
+endedIn m = ended (verdictIn m) (m .taken)

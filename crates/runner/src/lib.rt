@@ -1,0 +1,264 @@
+// A run over a log (document 01, "Running a log"): records are observed one after the other, from a fresh monitor, until a refusal, a break, the budget or the log's end.
+// The monitor goes from record to record by value, and the book's arrays are lent by reference.
+ghost use mathlib.Core.Path.{_≡_};
+ghost use mathlib.Core.Bool.{true, false};
+ghost use Prim.Native.Nat.{_+_, _*_, _<_, _≤_, min};
+ghost use lib.ListN.{length};
+ghost use Rattle.pattern.specs.Judge.{allWhole, brokenAt};
+ghost use Rattle.monitor.specs.Promise.{seen, verdictIn};
+ghost use Rattle.sheet.specs.Form.{number};
+ghost use Rattle.runner.specs.Log.{observation, recordFrom, ended, openMask, refusedAt, turnedAway};
+ghost use Rattle.runner.specs.Runs.{Runs, Plays, TurnsLent, endedIn};
+use monitor::Answer;
+use monitor::Monitor;
+use monitor::Observation;
+
+// ---- records
+
+fn wide(x: u8) -> u32
+    ensures { λ r. ⌜ (r ≡ x) × (r < 256) ⌝ }
+{
+    x as u32
+}
+
+// A time, a u32: the four bytes from an offset on, little-endian.
+fn time_at(log: &[u8], at: usize) -> u32
+    requires { ⌜ at + 4 ≤ length (now log) ⌝ }
+    ensures { λ r. ⌜ r ≡ number (now (log .entry)) 4 at ⌝ }
+{
+    let low = wide(log[at]) + 256 * wide(log[at + 1]);
+    let high = wide(log[at + 2]) + 256 * wide(log[at + 3]);
+    low + 65536 * high
+}
+
+// "a name 0 to 63 or FF for a clock reading"; 64 to 254 are names that observing refuses.
+fn observation(name: u8, time: u32) -> Observation
+    ensures { λ o. ⌜ seen o ≡ observation name time ⌝ }
+{
+    match name {
+        0..=63 => Observation::Event(name, time),
+        64..=254 => Observation::Event(name, time),
+        255 => Observation::Clock(time),
+    }
+}
+
+// The record at an offset: five bytes, the name and then the time.
+fn record_from(log: &[u8], at: usize) -> Observation
+    requires { ⌜ at + 5 ≤ length (now log) ⌝ }
+    ensures { λ o. ⌜ seen o ≡ recordFrom (now (log .entry)) at ⌝ }
+{
+    let name = log[at];
+    let time = time_at(log, at + 1);
+    observation(name, time)
+}
+
+// ---- the five numbers
+
+// Answer (0 whole, 1 open, 2 broken, 3 refused), refusal or 0, mask, taken, place.
+pub struct Outcome {
+    pub answer: u8,
+    pub refusal: u8,
+    pub mask: u16,
+    pub taken: u32,
+    pub place: u32,
+}
+
+// "Mask is 0 for whole".
+fn whole(taken: u32) -> Outcome
+    ensures { λ r. ⌜ r ≡ ended allWhole taken ⌝ }
+{
+    Outcome {
+        answer: 0,
+        refusal: 0,
+        mask: 0,
+        taken: taken,
+        place: 0,
+    }
+}
+
+// "Place is k for broken".
+fn broken(k: u32, mask: u16, taken: u32) -> Outcome
+    ensures { λ r. ⌜ r ≡ ended (brokenAt k mask) taken ⌝ }
+{
+    Outcome {
+        answer: 2,
+        refusal: 0,
+        mask: mask,
+        taken: taken,
+        place: k,
+    }
+}
+
+// What a monitor says once nothing more is looked at: its verdict, which is no refusal.
+fn ended(m: Monitor) -> Outcome
+    ensures { λ r. ⌜ r ≡ endedIn m ⌝ }
+{
+    let v = monitor::verdict(m);
+    match v {
+        Answer::Open(mask) => Outcome {
+            answer: 1,
+            refusal: 0,
+            mask: mask,
+            taken: m.taken,
+            place: 0,
+        },
+        Answer::Broken(k, mask) => broken(k, mask, m.taken),
+        _ => whole(m.taken),
+    }
+}
+
+// The mask of the open rules: 0 where the verdict is another.
+fn open_mask(m: Monitor) -> u16
+    ensures { λ r. ⌜ r ≡ openMask (verdictIn m) ⌝ }
+{
+    let v = monitor::verdict(m);
+    match v {
+        Answer::Open(mask) => mask,
+        _ => 0,
+    }
+}
+
+// A refused record: "after a record's refusal it is the open mask just before"; the place is the record's offset.
+fn refused_at(number: u8, m: Monitor, at: u32) -> Outcome
+    ensures { λ r. ⌜ r ≡ refusedAt number (verdictIn m) (m .taken) at ⌝ }
+{
+    let mask = open_mask(m);
+    Outcome {
+        answer: 3,
+        refusal: number,
+        mask: mask,
+        taken: m.taken,
+        place: at,
+    }
+}
+
+// A log that is no list of records: "for 14 it is 0".
+fn turned_away() -> Outcome
+    ensures { λ r. ⌜ r ≡ turnedAway 14 0 ⌝ }
+{
+    Outcome {
+        answer: 3,
+        refusal: 14,
+        mask: 0,
+        taken: 0,
+        place: 0,
+    }
+}
+
+// ---- one record
+
+// The monitor after a record, and whether the run stops there; if it does, what it says.
+pub struct Turned {
+    pub monitor: Monitor,
+    pub stops: bool,
+    pub outcome: Outcome,
+}
+
+// The run goes on: the outcome says nothing.
+fn goes_on(m: Monitor) -> Turned
+    ensures { λ r. ⌜ (r .monitor ≡ m) × (r .stops ≡ false) ⌝ }
+{
+    Turned {
+        monitor: m,
+        stops: false,
+        outcome: whole(0),
+    }
+}
+
+// The run stops.
+fn stopped(m: Monitor, outcome: Outcome) -> Turned
+    ensures { λ r. ⌜ (r .monitor ≡ m) × (r .stops ≡ true) × (r .outcome ≡ outcome) ⌝ }
+{
+    Turned {
+        monitor: m,
+        stops: true,
+        outcome: outcome,
+    }
+}
+
+// One record's observation: "Only a refusal or a break stops" the run.
+fn turn<'a>(
+    heads: &'a [u64; 16],
+    fragments: &'a [u16; 256],
+    names: &'a [u64; 256],
+    ranges: &'a [u64; 2048],
+    holders: &'a [u16; 64],
+    m: Monitor,
+    o: Observation,
+    at: u32,
+) -> Turned
+    ensures { λ r. ⌜ TurnsLent (now (heads .entry)) (now (fragments .entry)) (now (names .entry)) (now (ranges .entry)) (now (holders .entry)) m o at r ⌝ }
+{
+    let s = monitor::observe(heads, fragments, names, ranges, holders, m, o);
+    let next = s.monitor;
+    let answer = s.answer;
+    match answer {
+        Answer::Broken(k, mask) => stopped(next, broken(k, mask, next.taken)),
+        Answer::Refused(number) => stopped(next, refused_at(number, m, at)),
+        _ => goes_on(next),
+    }
+}
+
+// ---- the records one after the other
+
+// At most n records, from a fresh monitor on.
+fn play<'a>(
+    heads: &'a [u64; 16],
+    fragments: &'a [u16; 256],
+    names: &'a [u64; 256],
+    ranges: &'a [u64; 2048],
+    holders: &'a [u16; 64],
+    log: &[u8],
+    n: u32,
+) -> Outcome
+    requires { ⌜ (5 * n ≤ length (now log)) × (length (now log) ≤ 4294967295) ⌝ }
+    ensures { λ r. ⌜ Plays (now (heads .entry)) (now (fragments .entry)) (now (names .entry)) (now (ranges .entry)) (now (holders .entry)) (now (log .entry)) n r ⌝ }
+{
+    let mut m = monitor::fresh(fragments);
+    let mut i = 0u32;
+    while i < n {
+        let at = 5 * i;
+        let o = record_from(log, at as usize);
+        let t = turn(heads, fragments, names, ranges, holders, m, o, at);
+        if t.stops {
+            return t.outcome;
+        }
+        m = t.monitor;
+        i = i + 1;
+    }
+    ended(m)
+}
+
+// "takes at most a given budget of records": the smaller of the budget and the log's count.
+fn at_most(budget: u32, count: u32) -> u32
+    ensures { λ r. ⌜ r ≡ min budget count ⌝ }
+{
+    if budget < count {
+        return budget;
+    }
+    count
+}
+
+// A run over a log under the book whose arrays are lent: 14 if the log is no list of records; else the judge's answers to its records, up to the budget.
+// For arrays that are no sheet's book the outcome is the program's choice; the call returns, and touches nothing.
+pub fn run<'a>(
+    heads: &'a [u64; 16],
+    fragments: &'a [u16; 256],
+    names: &'a [u64; 256],
+    ranges: &'a [u64; 2048],
+    holders: &'a [u16; 64],
+    log: &[u8],
+    budget: u32,
+) -> Outcome
+    ensures { λ r. ⌜ Runs (now (heads .entry)) (now (fragments .entry)) (now (names .entry)) (now (ranges .entry)) (now (holders .entry)) (now (log .entry)) budget r ⌝ }
+{
+    let len = log.len();
+    if len % 5 != 0 {
+        return turned_away();
+    }
+    if 4294967295 < len {
+        return turned_away();
+    }
+    let n = at_most(budget, (len / 5) as u32);
+    play(heads, fragments, names, ranges, holders, log, n)
+}
