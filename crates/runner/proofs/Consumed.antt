@@ -4,7 +4,7 @@ use mathlib.Core.Path.{_≡_, refl, sym, _∙_, ap, subst}
 use mathlib.Core.Bool.{Bool, true, false, cond}
 use mathlib.Core.Option.{Option, none, some}
 use mathlib.Core.List.{List, [], _∷_, _++_, append-assoc, append-nil}
-use Prim.Native.Nat.{ℕ, zero, suc, _+_, _*_, _≤_, _<_}
+use Prim.Native.Nat.{ℕ, zero, suc, _+_, _*_, _/_, _≤_, _<_, min}
 use native.Mathlib.Omega.{arith}
 use lib.ListN.{length, length-append}
 use Rattle.pattern.specs.Judge.{Observation, Oracle, Verdict, allWhole, someOpen, brokenAt, Answer, verdict, refused, Kept, nothing, latest, refusal, unlessRefused, unlessBroken, judge, judgeKeeps}
@@ -156,7 +156,7 @@ module _ (oracle : Oracle) (log : List ℕ) where
     pub within : consumed oracle log budget ≤ budget
     pub inside : 5 * consumed oracle log budget ≤ length log
     pub kept : judgeKeeps oracle nothing (recordsFrom log 0 (consumed oracle log budget)) .taken ≡ recordsFrom log 0 (consumed oracle log budget)
-    pub used-up : runOf oracle log budget .answer < 2 → consumed oracle log budget ≡ atMost log budget
+    pub used-up : runOf oracle log budget .answer < 2 → consumed oracle log budget ≡ min budget (length log / 5)
 
   module _ (budget : ℕ) where
     abbrev result : Bool → Outcome
@@ -174,7 +174,7 @@ module _ (oracle : Oracle) (log : List ℕ) where
       within = subst (λ (x : Bool). many x ≤ budget) (sym q) (omega arith);
       inside = subst (λ (x : Bool). 5 * many x ≤ length log) (sym q) (omega arith);
       kept = subst (λ (x : Bool). judgeKeeps oracle nothing (recordsFrom log 0 (many x)) .taken ≡ recordsFrom log 0 (many x)) (sym q) list;
-      used-up = subst (λ (x : Bool). result x .answer < 2 → many x ≡ atMost log budget) (sym q) all;
+      used-up = subst (λ (x : Bool). result x .answer < 2 → many x ≡ min budget (length log / 5)) (sym q) all;
     }
 
     pub taken-is-consumed : Consumes budget

@@ -4,7 +4,7 @@ ghost use mathlib.Core.Path.{_≡_};
 ghost use mathlib.Core.Bool.{true, false};
 ghost use Prim.Native.Nat.{_+_, _*_, _<_, _≤_, min};
 ghost use lib.ListN.{length};
-ghost use Rattle.pattern.specs.Judge.{allWhole, brokenAt};
+ghost use Rattle.pattern.specs.Judge.{allWhole, someOpen, brokenAt};
 ghost use Rattle.monitor.specs.Promise.{seen, verdictIn};
 ghost use Rattle.sheet.specs.Form.{number};
 ghost use Rattle.runner.specs.Log.{observation, recordFrom, ended, openMask, refusedAt, turnedAway};
@@ -76,6 +76,18 @@ fn whole(taken: u32) -> Outcome
     }
 }
 
+fn still_open(mask: u16, taken: u32) -> Outcome
+    ensures { λ r. ⌜ r ≡ ended (someOpen mask) taken ⌝ }
+{
+    Outcome {
+        answer: 1,
+        refusal: 0,
+        mask: mask,
+        taken: taken,
+        place: 0,
+    }
+}
+
 // "Place is k for broken".
 fn broken(k: u32, mask: u16, taken: u32) -> Outcome
     ensures { λ r. ⌜ r ≡ ended (brokenAt k mask) taken ⌝ }
@@ -95,13 +107,7 @@ fn ended(m: Monitor) -> Outcome
 {
     let v = monitor::verdict(m);
     match v {
-        Answer::Open(mask) => Outcome {
-            answer: 1,
-            refusal: 0,
-            mask: mask,
-            taken: m.taken,
-            place: 0,
-        },
+        Answer::Open(mask) => still_open(mask, m.taken),
         Answer::Broken(k, mask) => broken(k, mask, m.taken),
         _ => whole(m.taken),
     }

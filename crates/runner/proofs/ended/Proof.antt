@@ -11,6 +11,9 @@ verdict-requires c κs = search needs
 enum-known-v : tie.Need-enum-known-v
 enum-known-v c = search needs
 
+still-open-requires : tie.Need-still-open-requires
+still-open-requires c κs = search needs
+
 enum-known-v-2 : tie.Need-enum-known-v-2
 enum-known-v-2 c = search needs
 
@@ -21,7 +24,7 @@ whole-requires : tie.Need-whole-requires
 whole-requires c κs = search needs
 
 returns : tie.Need-returns
-returns c = says-ended (c .before .before .before .before .args .m) (c .before .before .before .verdict .ensures) (c .before .v .given .1)
+returns c = c .still-open .ensures ∙ says-ended (c .before .before .before .before .before .args .m) (c .before .before .before .before .verdict .ensures) (c .before .before .v .given .1)
 
 returns-2 : tie.Need-returns-2
 returns-2 c = c .broken .ensures ∙ says-ended (c .before .before .before .before .before .args .m) (c .before .before .before .before .verdict .ensures) (c .before .before .v2 .given .1)
@@ -35,6 +38,7 @@ ended-spec =
     (tie.spec
     verdict-requires
     enum-known-v
+    still-open-requires
     enum-known-v-2
     broken-requires
     whole-requires

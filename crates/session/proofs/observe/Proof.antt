@@ -1,4 +1,4 @@
--- `session::observe` meets its contract: a walk of its MIR, by hand. What each `&` owns is had twice. The borrow is opened, the whole monitor is copied into a local, `monitor::observe` is called on the copy, and the monitor that it returned is stored whole through the reference; the borrow is closed at that monitor.
+-- `session::observe` meets its contract: a walk of its MIR. What each `&` owns is had twice. The borrow is opened, the whole monitor is copied into a local, `monitor::observe` is called on the copy, and the monitor that it returned is stored whole through the reference; the borrow is closed at that monitor.
 -- All that the proof knows of `monitor::observe` is that it meets its contract. No field of `Monitor` and no case of `Answer` or `Observation` is named: the laws that the check makes of each type say all that is needed.
 -- Assumes nothing.
 use mathlib.Core.Path.{refl, ap}

@@ -1,4 +1,4 @@
--- `session::start` meets its contract: a walk of its MIR, by hand. What the `&` owns is had twice. `monitor::fresh` is called, and the monitor that it returned is stored whole through the reference.
+-- `session::start` meets its contract: a walk of its MIR. What the `&` owns is had twice. `monitor::fresh` is called, and the monitor that it returned is stored whole through the reference.
 -- All that the proof knows of `monitor::fresh` is that it meets its contract. No field of `Monitor` is named.
 -- Assumes nothing.
 use mathlib.Core.Path.{refl, ap}

@@ -1,4 +1,4 @@
--- `session::taken` meets its contract: a walk of its MIR, by hand. The borrow is looked into for the field's value, and shut again.
+-- `session::taken` meets its contract: a walk of its MIR. The borrow is looked into for the field's value, and shut again.
 -- The laws of `Monitor` come from the module that the check makes of it: how a record's machine value is spelled, that its relation tells that value, and that it can be copied.
 -- Assumes nothing.
 use mathlib.Core.Path.{refl}

@@ -1,4 +1,4 @@
--- `session::verdict` meets its contract: a walk of its MIR, by hand. The borrow is looked into, the whole monitor is copied into a local, the borrow is shut again, and `monitor::verdict` is called on the copy.
+-- `session::verdict` meets its contract: a walk of its MIR. The borrow is looked into, the whole monitor is copied into a local, the borrow is shut again, and `monitor::verdict` is called on the copy.
 -- All that the proof knows of `monitor::verdict` is that it meets its contract. No field of `Monitor` and no case of `Answer` is named.
 -- Assumes nothing.
 use mathlib.Core.Path.{refl}
