@@ -263,7 +263,7 @@ class Judge:
 
     def refusal(self, name, time):
         """12, 11 or 13, or 0 where the observation is taken."""
-        if 64 <= name != CLOCK:
+        if name >= 64 and name != CLOCK:
             return 12
         if time < self.latest():
             return 11

@@ -16,6 +16,11 @@ def log_bytes(observations):
 # Rounds that follow a rule: lists of blocks [fragment number, range, count], P's fragments first
 # ---------------------------------------------------------------------------------------------
 
+def few(count):
+    """A block's count as it goes into a log: of a range with large bounds only a beginning."""
+    return min(count, 20)
+
+
 def fragment_blocks(dice, number, fragment):
     ranges = dice.shuffled(fragment.ranges)
     if fragment.join == 1:
@@ -23,7 +28,7 @@ def fragment_blocks(dice, number, fragment):
     blocks = []
     for r in ranges:
         most = min(r.v, r.u + 3)
-        blocks.append([number, r, dice.pick([r.u, r.u, most, dice.between(r.u, most)])])
+        blocks.append([number, r, few(dice.pick([r.u, r.u, most, dice.between(r.u, most)]))])
     return blocks
 
 
@@ -38,9 +43,9 @@ def changed_round(dice, rule, blocks, change):
     i = dice.below(len(blocks))
     number, r, count = blocks[i]
     if change == 'too many':
-        blocks[i][2] = r.v + 1 if r.v < 10 else count + 1
+        blocks[i][2] = few(r.v + 1)
     elif change == 'too few':
-        blocks[i][2] = r.u - 1 if r.u < 10 else count
+        blocks[i][2] = few(r.u - 1)
     elif change == 'reopened':
         siblings = [j for j in range(len(blocks)) if blocks[j][0] == number]
         blocks.insert(siblings[-1] + 1, [number, blocks[siblings[0]][1], 1])
@@ -50,7 +55,7 @@ def changed_round(dice, rule, blocks, change):
         j = dice.below(len(blocks))
         blocks[i], blocks[j] = blocks[j], blocks[i]
     elif change == 'repeated':
-        blocks.insert(i + 1, [number, r, r.u])
+        blocks.insert(i + 1, [number, r, few(r.u)])
     elif change == 'another':
         fragment = dice.pick(rule.p + rule.q)
         blocks.insert(i, [number, dice.pick(fragment.ranges), 1])
@@ -65,8 +70,8 @@ def clamped(time):
 
 
 def timed_round(dice, rule, blocks, start, lateness):
-    """The round's events from `start` on, and the time after it. For kind 2 the last event of Q is
-    `lateness` after the deadline, which is moved back by the caller where the events are to be in time."""
+    """The round's events from `start` on, and the time of the last. For kind 2 the last event of Q comes
+    `lateness` after the deadline (before it if that is negative, and never before the end of P)."""
     time, out = start, []
     step = dice.pick([[0], [0, 1], [0, 1, 2], [1, 5]])
     p_names = [r.name for number, r, count in blocks if number < len(rule.p) for _ in range(count)]
@@ -131,12 +136,14 @@ def with_one_more(dice, observations, name):
 
 
 def full_p(dice, rule):
-    """Blocks of a P to which nothing can be added: every range of its last fragment, the last block at v."""
+    """Blocks of a P whose last block is at v. Nothing can be added to it, unless its last fragment is joined
+    any and a range of it is left out, which is so now and then."""
     last = len(rule.p) - 1
-    blocks = [b for b in round_blocks(dice, rule) if b[0] < last]
     ranges = dice.shuffled(rule.p[last].ranges)
-    blocks += [[last, r, r.u] for r in ranges]
-    blocks[-1][2] = ranges[-1].v if ranges[-1].v < 10 else ranges[-1].u
+    if rule.p[last].join == 1 and len(ranges) > 1 and dice.chance(0.4):
+        ranges.pop()
+    blocks = [b for b in round_blocks(dice, rule) if b[0] < last] + [[last, r, few(r.u)] for r in ranges]
+    blocks[-1][2] = few(ranges[-1].v)
     return blocks
 
 

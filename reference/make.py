@@ -197,7 +197,7 @@ def fault_cases(dice, each):
         yield faulty_case(dice, lambda sheet: twice_faulty(dice, sheet, dice.pick(FAULTS), dice.pick(FAULTS)))
 
 
-def every_truncation(dice):
+def every_truncation():
     """Each beginning of one sheet with all kinds of rule."""
     sheet = Sheet(2, (T.rules[0], R.rules[0], N.rules[0]))
     book = written(sheet)[0]
@@ -216,7 +216,7 @@ def flipped_cases(dice, count):
         yield Case('flipped bytes', bytes(book), log_bytes(some_log(dice, sheet, 8)), MOST)
 
 
-def edge_cases(dice):
+def edge_cases():
     """The largest sheet and its neighbours; empty sheets and logs; the order of 12 and 11; the last time."""
     family = 'edges'
     largest = written(largest_sheet())[0]
@@ -246,12 +246,12 @@ def edge_cases(dice):
 def all_cases():
     dice = Dice(random.Random(SEED).random)
     yield from document_cases()
-    yield from edge_cases(dice)
+    yield from edge_cases()
     yield from short_cases()
-    yield from every_truncation(dice)
+    yield from every_truncation()
     yield from fault_cases(dice, 80)
     yield from flipped_cases(dice, 600)
-    yield from refused_log_cases(dice, 900)
+    yield from refused_log_cases(dice, 1200)
     yield from deadline_cases(dice, 2000)
     yield from log_cases(dice, 4500)
 

@@ -83,27 +83,28 @@ def written(sheet):
 # Random rules
 # ---------------------------------------------------------------------------------------------
 
-def some_fragment(dice, names, most_ranges):
-    ranges = []
-    for _ in range(dice.pick([1, 1, 1, 2, 2, 3][:3 + most_ranges])):
-        if names:
-            u = dice.pick([1, 1, 1, 2, 2, 3])
-            v = u + dice.pick([0, 0, 0, 1, 1, 2])
-            if dice.chance(0.03):
-                v = dice.pick([255, 256, 1000, 65535])
-            if dice.chance(0.01):
-                u = v
-            ranges.append(Range(names.pop(), u, v))
-    return Fragment(dice.below(2), tuple(ranges))
+def some_range(dice, name):
+    """Small bounds as a rule; now and then a large v, and seldom a large u."""
+    u = dice.pick([1, 1, 1, 2, 2, 3])
+    v = u + dice.pick([0, 0, 0, 1, 1, 2])
+    if dice.chance(0.03):
+        v = dice.pick([255, 256, 1000, 65535])
+        u = dice.pick([u, u, v])
+    return Range(name, u, v)
+
+
+def some_fragment(dice, names):
+    count = min(len(names), dice.pick([1, 1, 1, 2, 2, 3]))
+    return Fragment(dice.below(2), tuple(some_range(dice, names.pop()) for _ in range(count)))
 
 
 def some_ordering(dice, names):
-    """One to three fragments; `names` is used up from its end."""
-    out = []
-    for _ in range(dice.pick([1, 1, 1, 1, 2, 2, 3])):
+    """One to three fragments; what they use is taken off the end of `names`, which is not empty."""
+    fragments = [some_fragment(dice, names)]
+    for _ in range(dice.pick([0, 0, 0, 0, 1, 1, 2])):
         if names:
-            out.append(some_fragment(dice, names, 3))
-    return tuple(out)
+            fragments.append(some_fragment(dice, names))
+    return tuple(fragments)
 
 
 def some_rule(dice, pool, outputs, kind):
@@ -111,17 +112,18 @@ def some_rule(dice, pool, outputs, kind):
     inputs = dice.shuffled([n for n in pool if not outputs >> n & 1])
     plugin = dice.shuffled([n for n in pool if outputs >> n & 1])
     if kind == 2:
-        q = some_ordering(dice, plugin if len(plugin) < 3 else plugin[:dice.between(1, len(plugin) - 1)])
-        left = set(plugin) - {r.name for fragment in q for r in fragment.ranges}
-        p = some_ordering(dice, dice.shuffled(inputs + sorted(left)))
+        q = some_ordering(dice, plugin)
+        p = some_ordering(dice, dice.shuffled(inputs + plugin))
         return Rule(2, p, q, 0, dice.pick([0, 1, 2, 3, 5, 10, 10, 100, 4294967295]))
     trigger = inputs.pop()
     return Rule(kind, some_ordering(dice, dice.shuffled(inputs + plugin)), (), trigger, 0)
 
 
 def other_bounds(dice, r):
-    u = max(1, r.u + dice.pick([-1, 0, 0, 1]))
-    return r._replace(u=u, v=max(u, min(65535, r.v + dice.pick([-1, 0, 1]))))
+    """Bounds that differ by one at most, where they can."""
+    u = min(max(1, r.u + dice.pick([-1, 0, 0, 1])), 65535)
+    v = min(max(u, r.v + dice.pick([-1, 0, 1])), 65535)
+    return Range(r.name, u, v)
 
 
 def variant(dice, rule):
@@ -135,11 +137,10 @@ def variant(dice, rule):
 
 
 def some_pool(dice, size):
-    """Names for one or more rules, and the set of outputs: about half of them, two at least."""
-    names = dice.shuffled([0, 1, 2, 63, 62, 31, 32] + list(range(3, 31)) + list(range(33, 62)))
-    if dice.chance(0.5):
-        names = dice.shuffled(range(size)) + [63]
-    pool = names[:size]
+    """Names for one or more rules, and the set of outputs, which has every second one of them."""
+    pool = dice.shuffled(range(64 if dice.chance(0.5) else size))[:size]
+    if 63 not in pool and dice.chance(0.3):
+        pool[dice.below(size)] = 63
     outputs = 0 if dice.chance(0.5) else dice.below(1 << 32) | dice.below(1 << 32) << 32
     for i, name in enumerate(pool):
         bit = 1 << name
