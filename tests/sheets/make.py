@@ -14,10 +14,10 @@ import struct
 import sys
 
 HERE = os.path.dirname(os.path.abspath(__file__))
-CRATE = os.path.join(HERE, "..", "..", "crates", "sheets")
-sys.path.insert(0, os.path.join(HERE, "..", "..", "reference"))
+sys.path[:0] = [os.path.join(HERE, ".."), os.path.join(HERE, "..", "..", "reference")]
 
 from guard import Refused, read_sheet
+from stored import keep
 
 # ---------------------------------------------------------------- what is due
 
@@ -225,19 +225,5 @@ def made():
     return sheets, "".join(lines).encode(), met
 
 
-def main():
-    sheets, lines, met = made()
-    files = (("stdin", sheets), ("stdout", lines))
-    if sys.argv[1:] == ["--check"]:
-        for name, data in files:
-            with open(os.path.join(CRATE, name), "rb") as f:
-                if f.read() != data:
-                    sys.exit(name + " is not what is due")
-        print(", ".join("%s: %d" % ("accepted" if k == 0 else k, met[k]) for k in sorted(met)))
-        return
-    for name, data in files:
-        with open(os.path.join(CRATE, name), "wb") as f:
-            f.write(data)
-
-
-main()
+sheets, lines, met = made()
+keep("sheets", sheets, lines, [("accepted" if k == 0 else k, met[k]) for k in sorted(met)])

@@ -15,13 +15,13 @@ import sys
 from collections import Counter
 
 HERE = os.path.dirname(os.path.abspath(__file__))
-CRATE = os.path.join(HERE, "..", "..", "crates", "replay")
-sys.path.insert(0, os.path.join(HERE, "..", "..", "reference"))
+sys.path[:0] = [os.path.join(HERE, ".."), os.path.join(HERE, "..", "..", "reference")]
 
 from guard import BROKEN, CLOCK, MOST, OPEN, Judge, read_sheet
 from logs import deadline_log, some_log, with_refusal
 from make import PRINTED_BOOK, PRINTED_TRACE, TRACES, observations, timed_sheet, until_found
 from sheets import Dice, some_sheet, written
+from stored import keep
 
 SEED = 2016
 ROOM = 65536
@@ -96,19 +96,5 @@ def made():
     return data, "".join(lines).encode(), met
 
 
-def main():
-    data, lines, met = made()
-    files = (("stdin", data), ("stdout", lines))
-    if sys.argv[1:] == ["--check"]:
-        for name, content in files:
-            with open(os.path.join(CRATE, name), "rb") as f:
-                if f.read() != content:
-                    sys.exit(name + " is not what is due")
-        print(", ".join("%s: %d" % (word, met[word]) for word in sorted(met)))
-        return
-    for name, content in files:
-        with open(os.path.join(CRATE, name), "wb") as f:
-            f.write(content)
-
-
-main()
+data, lines, met = made()
+keep("replay", data, lines, sorted(met.items()))
