@@ -5,26 +5,12 @@ ghost use Prim.Native.Nat.{_+_, _≤_};
 ghost use mathlib.Core.List.{_++_};
 ghost use lib.ListN.{length, drop};
 ghost use Rattle.sheet.specs.Layout.{le};
-ghost use Rattle.runner.specs.Log.{turnedAway};
 ghost use Rattle.host.specs.Host.{Outcomes, Calls, twelve, stored};
 use runner::Outcome;
 
 // ---- the five numbers
 
-// A refused sheet: "Mask is 0 for .. refusals 1 to 10", and nothing is taken.
-fn turned_away(number: u8, place: u32) -> Outcome
-    ensures { λ r. ⌜ r ≡ turnedAway number place ⌝ }
-{
-    Outcome {
-        answer: 3,
-        refusal: number,
-        mask: 0,
-        taken: 0,
-        place: place,
-    }
-}
-
-// The five numbers for a sheet, a log and a budget: the sheet's refusal, or what the run over the log says.
+// The five numbers for a sheet, a log and a budget: the sheet's refusal ("Mask is 0 for .. refusals 1 to 10", and nothing is taken), or what the run over the log says.
 pub fn outcome(sheet: &[u8], log: &[u8], budget: u32) -> Outcome
     ensures { λ r. ⌜ Outcomes (now (sheet .entry)) (now (log .entry)) budget r ⌝ }
 {
@@ -43,7 +29,16 @@ pub fn outcome(sheet: &[u8], log: &[u8], budget: u32) -> Outcome
                 budget,
             )
         }
-        sheet::Answer::Refused { number, place } => turned_away(number, place as u32),
+        sheet::Answer::Refused { number, place } => {
+            let at = place as u32;
+            Outcome {
+                answer: 3,
+                refusal: number,
+                mask: 0,
+                taken: 0,
+                place: at,
+            }
+        }
     }
 }
 

@@ -1,4 +1,5 @@
 -- `host::outcome` keeps its promise, by the reader's answer. The place of a refusal fits a u32, however long the sheet is. Assumes nothing.
+use mathlib.Core.Path.{refl}
 use native.Mathlib.Omega.{arith}
 use Rattle.sheet.proofs.Fields.{bytes-of}
 use Rattle.host.proofs.Outcomes.{place-fits, sheet-refused, sheet-accepted}
@@ -18,17 +19,14 @@ run-requires c κs = search needs
 enum-known-answer : tie.Need-enum-known-answer
 enum-known-answer c = search needs
 
-cast-turned-away : tie.Need-cast-turned-away
-cast-turned-away c = omega (arith, place-fits (c .before .before .before .before .before .before .args .sheet .now) (bytes-of (c .before .before .before .before .before .before .args .sheet .now) (λ i. c .before .before .before .before .before .shared-slice-known .given i .fits)) (c .before .before .before .translate .result) (c .before .before .before .translate .ensures) (c .before .answer .given .1))
-
-turned-away-requires : tie.Need-turned-away-requires
-turned-away-requires c κs = search needs
+cast-at : tie.Need-cast-at
+cast-at c = omega (arith, place-fits (c .before .before .before .before .before .before .args .sheet .now) (bytes-of (c .before .before .before .before .before .before .args .sheet .now) (λ i. c .before .before .before .before .before .shared-slice-known .given i .fits)) (c .before .before .before .translate .result) (c .before .before .before .translate .ensures) (c .before .answer .given .1))
 
 returns : tie.Need-returns
 returns c = sheet-accepted (c .before .before .before .before .before .before .before .before .before .before .before .before .before .args .sheet .now) (bytes-of (c .before .before .before .before .before .before .before .before .before .before .before .before .before .args .sheet .now) (λ i. c .before .before .before .before .before .before .before .before .before .before .before .before .shared-slice-known .given i .fits)) (c .before .before .before .before .before .before .before .before .before .before .translate .result) (c .before .before .before .before .before .before .before .before .before .before .translate .ensures) (c .before .before .before .before .before .before .before .before .before .before .before .before .before .args .log .now) (c .before .before .before .before .before .before .before .before .before .before .before .before .before .args .budget) (c .run .result) (c .before .before .before .before .before .before .before .before .before .match .keys1) (c .run .ensures)
 
 returns-2 : tie.Need-returns-2
-returns-2 c = sheet-refused (c .before .before .before .before .before .before .before .args .sheet .now) (bytes-of (c .before .before .before .before .before .before .before .args .sheet .now) (λ i. c .before .before .before .before .before .before .shared-slice-known .given i .fits)) (c .before .before .before .before .translate .result) (c .before .before .before .before .translate .ensures) (c .before .before .before .before .before .before .before .args .log .now) (c .before .before .before .before .before .before .before .args .budget) (c .turned-away .result) (c .before .before .answer .given .1) (c .turned-away .ensures)
+returns-2 c = sheet-refused (c .before .before .before .before .before .before .args .sheet .now) (bytes-of (c .before .before .before .before .before .before .args .sheet .now) (λ i. c .before .before .before .before .before .shared-slice-known .given i .fits)) (c .before .before .before .translate .result) (c .before .before .before .translate .ensures) (c .before .before .before .before .before .before .args .log .now) (c .before .before .before .before .before .before .args .budget) _ (c .before .answer .given .1) refl
 
 pub outcome-spec : {M : Type 1} → statement M
 outcome-spec =
@@ -38,7 +36,6 @@ outcome-spec =
     enum-told
     run-requires
     enum-known-answer
-    cast-turned-away
-    turned-away-requires
+    cast-at
     returns
     returns-2)
