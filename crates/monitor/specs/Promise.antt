@@ -28,7 +28,7 @@ use Rattle.monitor.specs.declared.Answer.{Answer}
 use Rattle.monitor.specs.declared.Answer.the-variants.{Whole, Open, Broken, Refused}
 use Rattle.monitor.specs.declared.Observed.{Observed}
 
--- ---- this paper's values for each case of an answer and an observation
+-- ---- the judge's value for each case of an answer and an observation
 
 abbrev pub said : Answer → J.Answer
 said Whole = J.verdict allWhole
