@@ -1,13 +1,139 @@
-/* The call of a C host. Link with target/staticlib/libhost.a, which `rt staticlib host` proves and writes (x86-64). docs/EMBEDDING.md says what is proved. */
+/* The guard for C and C++ hosts: one call over a stored log, and a live session over memory that the host lends.
+ * Link with target/staticlib/libhost.a, which `rt staticlib host` proves and writes (x86-64). docs/EMBEDDING.md says what is proved, and what the host must keep true. */
 #ifndef GUARD_H
 #define GUARD_H
 
 #include <stddef.h>
 #include <stdint.h>
 
+#ifdef __cplusplus
+extern "C" {
+#endif
+
+/* ---- answers */
+
+enum {
+    GUARD_WHOLE = 0,   /* every rule's trace is a match */
+    GUARD_OPEN = 1,    /* no rule is broken; the mask has the rules that are open */
+    GUARD_BROKEN = 2,  /* the mask has the rules that broke at the observation that `place` counts: stop the plugin */
+    GUARD_REFUSED = 3  /* nothing has changed; `refusal` says why */
+};
+
+/* Refusals, "Where each refusal is found". 1 to 10 are a sheet's, 11 to 13 an observation's, 14 a log's, 15 an output's. */
+enum {
+    GUARD_TRUNCATED = 1,      /* a field doesn't fit in the bytes left */
+    GUARD_MARK = 2,           /* the mark is not "LOB" */
+    GUARD_VERSION = 3,        /* the version is not 1 */
+    GUARD_VALUE = 4,          /* a count, kind or join outside its values */
+    GUARD_NOT_ZERO = 5,       /* a Q count, trigger or t where 0 is due */
+    GUARD_NAME = 6,           /* a trigger or a range's name above 63 */
+    GUARD_BOUNDS = 7,         /* u is 0, or v < u */
+    GUARD_NAME_TWICE = 8,     /* a range's name is already in the rule */
+    GUARD_DIRECTION = 9,      /* a trigger that is an output, or a name of Q that is an input */
+    GUARD_LEFT_OVER = 10,     /* bytes after the last rule */
+    GUARD_TIME_FALLS = 11,    /* an observation before the latest one */
+    GUARD_NAME_UNKNOWN = 12,  /* an observation's name of 64 or more */
+    GUARD_COUNT_FULL = 13,    /* 4,294,967,295 observations are already taken */
+    GUARD_LOG_LENGTH = 14,    /* the log is no list of 5-byte records */
+    GUARD_OUTPUT = 15         /* the output has under 12 bytes */
+};
+
+/* ---- one call over a log */
+
+#define GUARD_OUTPUT_BYTES 12
+#define GUARD_SHEET_BYTES 5774 /* no accepted sheet is longer */
+#define GUARD_RECORD_BYTES 5   /* a name 0 to 63, or FF for a clock reading; then the time, little-endian */
+
 /* Runs a log under a sheet, from a fresh monitor, for at most `budget` records.
- * Returns 15 and writes nothing if out_length is below 12. Else returns 0, and out[0..11] are, little-endian: answer (0 whole, 1 open, 2 broken, 3 refused);
- * refusal number or 0; mask (u16); taken (u32); place (u32). Bytes of out from 12 on stay as they were. */
+ * Returns 15 and writes nothing if out_length is below 12. Else returns 0, and out[0..11] are, little-endian: answer; refusal number or 0; mask (u16); taken (u32);
+ * place (u32): k for broken, the field's or the record's offset for refused, else 0. Bytes of out from 12 on stay as they were. */
 uint32_t guard_run(const uint8_t *sheet, size_t sheet_length, const uint8_t *log, size_t log_length, uint32_t budget, uint8_t *out, size_t out_length);
+
+/* ---- a live session
+ * The host lends the memory of one book (19,200 bytes, which guard_open writes and nothing else changes) and of one monitor for each session under it (272 bytes).
+ * The words are the guard's own: a host stores and copies them, and does not read them. Every bit pattern is safe: for a book or a monitor that these calls did not make,
+ * or a monitor of another book, the answer is free, the call returns, and it writes nothing but the monitor. */
+
+typedef struct guard_book {
+    uint64_t heads[16];
+    uint16_t fragments[256];
+    uint64_t names[256];
+    uint64_t ranges[2048];
+    uint16_t holders[64];
+} guard_book;
+
+typedef struct guard_monitor {
+    uint64_t words[34];
+} guard_monitor;
+
+/* answer and refusal as above; mask: bit r is rule r of the sheet, in file order from 0; place: k for broken, the field's offset for a refused sheet, else 0 */
+typedef struct guard_answer {
+    uint8_t answer;
+    uint8_t refusal;
+    uint16_t mask;
+    uint32_t place;
+} guard_answer;
+
+/* The calls as the library has them: a book's five arrays one by one, and an answer's four fields in one number, lowest first. Use the functions below. */
+uint64_t guard_lent_open(const uint8_t *sheet, size_t sheet_length, uint64_t *heads, uint16_t *fragments, uint64_t *names, uint64_t *ranges, uint16_t *holders,
+                         uint64_t *monitor);
+void guard_lent_start(const uint16_t *fragments, uint64_t *monitor);
+uint64_t guard_lent_event(const uint64_t *heads, const uint16_t *fragments, const uint64_t *names, const uint64_t *ranges, const uint16_t *holders, uint64_t *monitor,
+                          uint32_t name, uint32_t time);
+uint64_t guard_lent_clock(const uint64_t *heads, const uint16_t *fragments, const uint64_t *names, const uint64_t *ranges, const uint16_t *holders, uint64_t *monitor,
+                          uint32_t time);
+uint64_t guard_lent_verdict(const uint64_t *monitor);
+uint32_t guard_lent_taken(const uint64_t *monitor);
+
+static inline guard_answer guard_answer_of(uint64_t word)
+{
+    guard_answer a;
+    a.answer = (uint8_t)word;
+    a.refusal = (uint8_t)(word >> 8);
+    a.mask = (uint16_t)(word >> 16);
+    a.place = (uint32_t)(word >> 32);
+    return a;
+}
+
+/* Reads a sheet into *book and makes *monitor a fresh monitor for it. The answer is whole, or the sheet's refusal with the faulty field's offset: then neither is changed. */
+static inline guard_answer guard_open(guard_book *book, guard_monitor *monitor, const uint8_t *sheet, size_t sheet_length)
+{
+    return guard_answer_of(guard_lent_open(sheet, sheet_length, book->heads, book->fragments, book->names, book->ranges, book->holders, monitor->words));
+}
+
+/* Makes *monitor a fresh monitor for an opened book: a second session under it, or the same one from the start. */
+static inline void guard_start(const guard_book *book, guard_monitor *monitor)
+{
+    guard_lent_start(book->fragments, monitor->words);
+}
+
+/* One call between host and plugin, at a time in milliseconds. A name of 64 or more is refused (12), and so is a time before the latest one (11). After a break every
+ * observation gets the same answer. */
+static inline guard_answer guard_event(const guard_book *book, guard_monitor *monitor, uint32_t name, uint32_t time)
+{
+    return guard_answer_of(guard_lent_event(book->heads, book->fragments, book->names, book->ranges, book->holders, monitor->words, name, time));
+}
+
+/* A time alone: what a host's timer calls, so that a deadline is noticed while no call is made. */
+static inline guard_answer guard_clock(const guard_book *book, guard_monitor *monitor, uint32_t time)
+{
+    return guard_answer_of(guard_lent_clock(book->heads, book->fragments, book->names, book->ranges, book->holders, monitor->words, time));
+}
+
+/* The verdict that the monitor holds: whole, open or broken. */
+static inline guard_answer guard_verdict(const guard_monitor *monitor)
+{
+    return guard_answer_of(guard_lent_verdict(monitor->words));
+}
+
+/* How many observations the monitor has taken: all but the refused ones and those after a break. */
+static inline uint32_t guard_taken(const guard_monitor *monitor)
+{
+    return guard_lent_taken(monitor->words);
+}
+
+#ifdef __cplusplus
+}
+#endif
 
 #endif

@@ -40,14 +40,13 @@ use Rattle.step.specs.Decode.{decode, HoldsFragment}
 use Rattle.step.proofs.Slots.{fresh-are}
 use Rattle.step.proofs.Status.{running, isTimed}
 use Rattle.step.proofs.Links.{Stands}
-use Rattle.monitor.specs.Pass.{noState}
+use Rattle.words.specs.Words.{noState, heldBy, Holds}
+use Rattle.words.proofs.Places.{getD-mapN}
 use Rattle.monitor.specs.Observe.{freshRule, freshOf}
 use Rattle.monitor.specs.Promise.{said, seen, verdictIn, modelAt, Represents, Follows, Freshes, Run, done, more, RunAgrees, CodeAgreement}
-use Rattle.monitor.specs.declared.Monitor.{Monitor}
 use Rattle.monitor.specs.declared.Observation.{Observation}
 use Rattle.monitor.specs.declared.Answer.{Answer}
 use Rattle.monitor.proofs.Holding.{rule-formed, holds-rule}
-use Rattle.monitor.proofs.Taking.{getD-mapN}
 
 -- ---- the fresh monitor
 
@@ -117,33 +116,36 @@ module _ (S : Sheet) (formed : WellFormedSheet S) (b : Book) (looks : Looks S b)
               rw (fresh-at (S .rules) r (decode noState) h, is-true (atRest (ruleAt (S .rules) r) (fresh (ruleAt (S .rules) r))) (fresh-at-rest (ruleAt (S .rules) r) (rule-formed S formed b looks r h))) (and-false (isTimed (ruleAt (S .rules) r .kind)))
           look false q = refl
 
--- what the code's fresh monitor promises follows from its equation
-pub fresh-promise : (fragments : List ℕ) (m : Monitor) → m ≡ freshOf fragments → Freshes fragments m
-fresh-promise fragments m e S b formed looks lent = record {
-  formed = formed;
-  looks = looks;
-  falls = tt;
-  model = freshMonitor (S .rules);
-  follows = fresh-follows (S .rules);
-  represents = subst (Represents (S .rules) (freshMonitor (S .rules))) (sym (e ∙ ap freshOf (sym lent))) (fresh-represents S formed b looks);
+-- what the code's fresh monitor promises follows from what its words hold
+pub fresh-promise : (fragments m : List ℕ) → Holds m (freshOf fragments) → Freshes fragments m
+fresh-promise fragments m h S b formed looks lent = record {
+  long = h .long;
+  tracks = record {
+    formed = formed;
+    looks = looks;
+    falls = tt;
+    model = freshMonitor (S .rules);
+    follows = fresh-follows (S .rules);
+    represents = subst (Represents (S .rules) (freshMonitor (S .rules))) (sym (h .held ∙ ap freshOf (sym lent))) (fresh-represents S formed b looks);
+  };
 }
 
 -- ---- what following says of a monitor
 
-pub follows-taken : (S : Sheet) (k : Kept) (b : Book) (m : Monitor) → Follows S k b m → m .taken ≡ length (k .taken)
-follows-taken S k b m f = f .represents .count ∙ f .follows .taken
+pub follows-taken : (S : Sheet) (k : Kept) (b : Book) (m : List ℕ) → Follows S k b m → heldBy m .taken ≡ length (k .taken)
+follows-taken S k b m f = f .tracks .represents .count ∙ f .tracks .follows .taken
 
-pub follows-verdict : (S : Sheet) (k : Kept) (b : Book) (m : Monitor) → Follows S k b m → verdictIn m ≡ k .verdict
-follows-verdict S k b m f = f .represents .verdict′ ∙ f .follows .verdict
+pub follows-verdict : (S : Sheet) (k : Kept) (b : Book) (m : List ℕ) → Follows S k b m → verdictIn (heldBy m) ≡ k .verdict
+follows-verdict S k b m f = f .tracks .represents .verdict′ ∙ f .tracks .follows .verdict
 
 -- ---- the whole list
 
 module _ (S : Sheet) (b : Book) (oracle : Oracle) (right : Right (S .rules) oracle) where
-  pub record Along (k : Kept) (os : List Observation) (as′ : List Answer) (last : Monitor) : Type 0 where
+  pub record Along (k : Kept) (os : List Observation) (as′ : List Answer) (last : List ℕ) : Type 0 where
     pub answered : map said as′ ≡ judgeAnswers oracle k (map seen os)
     pub follows : Follows S (judgeKeeps oracle k (map seen os)) b last
 
-  along : {m last : Monitor} {os : List Observation} {as′ : List Answer} → Run b m os as′ last → (k : Kept) → Follows S k b m → Along k os as′ last
+  along : {m last : List ℕ} {os : List Observation} {as′ : List Answer} → Run b m os as′ last → (k : Kept) → Follows S k b m → Along k os as′ last
   along done k f = record { answered = refl; follows = f }
   along (more {o = o} c run) k f =
       let a = along run (judge oracle k (seen o) .kept) (c .follows S k f oracle right) in
@@ -151,7 +153,7 @@ module _ (S : Sheet) (b : Book) (oracle : Oracle) (right : Right (S .rules) orac
 
 -- for every accepted sheet's bytes and every list of observations: what reading, translating, opening and observing one after the other answers is what the judge answers
 pub agreement : (bytes : List ℕ) → Bytes bytes → (t : Translation) → Translates bytes t → (S : Sheet) → readSheet bytes ≡ accepted S
-    → (m : Monitor) → Freshes (t .book .fragments) m → (os : List Observation) (as′ : List Answer) (last : Monitor) → Run (t .book) m os as′ last → CodeAgreement S os as′ last
+    → (m : List ℕ) → Freshes (t .book .fragments) m → (os : List Observation) (as′ : List Answer) (last : List ℕ) → Run (t .book) m os as′ last → CodeAgreement S os as′ last
 agreement bytes are t translates S is m freshes os as′ last run = record { judged = (modelOracle (S .rules), right-oracle (S .rules) (rules-formed S formed .each)); agrees = agrees }
   where
     formed : WellFormedSheet S

@@ -1,4 +1,3 @@
-pub mod Places
 pub mod Passing
 pub mod Holding
 pub mod Rulewise

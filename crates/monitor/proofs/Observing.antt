@@ -4,11 +4,11 @@ use mathlib.Core.Path.{_≡_, refl, sym, _∙_, ap, ap₂, subst}
 use mathlib.Core.Bool.{Bool, true, false, cond, _&&_, and-false}
 use mathlib.Core.Option.{Option, none, some}
 use mathlib.Core.List.{List}
-use Prim.Native.Nat.{ℕ, suc, _+_, _<_}
+use Prim.Native.Nat.{ℕ, suc, _+_, _<_, _≤_}
 use native.Mathlib.Omega.{arith}
 use lib.Dec.{leb, ltb, eqb}
 use lib.ListN.{length, getD}
-use borrow.Author.Tests.{leb-false, eqb-true}
+use borrow.Author.Tests.{leb-false, le-leb, lt-leb, le-ltb, lt-ltb, eqb-true, eq-eqb, ne-eqb}
 use Rattle.names.specs.Names.{member}
 use Rattle.names.proofs.Sets.{member-empty}
 use Rattle.pattern.specs.Lists.{isIn}
@@ -31,15 +31,15 @@ use Rattle.step.specs.Steps.{Tables, planOf}
 use Rattle.step.specs.Decode.{decode}
 use Rattle.step.proofs.Status.{running}
 use Rattle.step.proofs.Links.{Rules}
-use Rattle.monitor.specs.Pass.{noState, passOf}
-use Rattle.monitor.specs.Observe.{judgedOf, refusedOf, takenOf, lookedOf, observeOf}
-use Rattle.monitor.specs.Promise.{said, seen, verdictIn, modelAt, Represents, Follows, Observes, ObservesLent}
-use Rattle.monitor.specs.declared.Pass.{Pass}
-use Rattle.monitor.specs.declared.Monitor.{Monitor}
+use Rattle.words.specs.Words.{noState, Held, heldBy, rulesIn}
+use Rattle.monitor.specs.Pass.{Pass, passOf, Passes}
+use Rattle.monitor.specs.Observe.{Observed, nameOf, timeOf, concernedBy, judgedOf, refusedOf, takenOf, lookedOf, observeOf}
+use Rattle.monitor.specs.Promise.{said, seen, verdictIn, modelAt, Represents, Tracks, Follows, Judges, Leaves, Observes, ObservesLent}
 use Rattle.monitor.specs.declared.Observation.{Observation}
 use Rattle.monitor.specs.declared.Observation.the-variants.{Event, Clock}
+use Rattle.monitor.specs.declared.Masks.{Masks}
+use Rattle.monitor.specs.declared.Answer.{Answer}
 use Rattle.monitor.specs.declared.Answer.the-variants.{Whole, Open, Broken, Refused}
-use Rattle.monitor.specs.declared.Observed.{Observed}
 use Rattle.monitor.proofs.Holding.{holds-rule}
 use Rattle.monitor.proofs.Taking.{status-at, statuses-length, after-length, pass-sixteen, pass-state, pass-stands, pass-broken, pass-open, pass-due}
 
@@ -84,7 +84,7 @@ module _ (S : Sheet) (formed : WellFormedSheet S) (b : Book) (looks : Looks S b)
   held : (r : ℕ) → r < length (S .rules) → Rules (b .fragments) (b .names) (b .ranges) r (planOf (getD (b .heads) r 0)) (ruleAt (S .rules) r)
   held r h = holds-rule S formed b looks r h
 
-  module _ (model : M.Monitor) (m : Monitor) (rep : Represents (S .rules) model m) (running′ : eqb (m .verdict) 2 ≡ false) where
+  module _ (model : M.Monitor) (m : Held) (rep : Represents (S .rules) model m) (running′ : eqb (m .verdict) 2 ≡ false) where
     -- no rule was broken before
     calm : (r : ℕ) → r < length (S .rules) → J.isBroken (statusAt (ruleAt (S .rules) r) (modelAt (model .rules) r) (model .latest)) ≡ false
     calm r h =
@@ -132,7 +132,7 @@ module _ (S : Sheet) (formed : WellFormedSheet S) (b : Book) (looks : Looks S b)
 
       -- the new monitor, by its verdict
       module _ (v mask′ dues′ : ℕ) where
-        abbrev made : Monitor
+        abbrev made : Held
         made = record { rules = P .rules; taken = m .taken + 1; latest = time; verdict = v; mask = mask′; dues = dues′ }
 
         makes : verdictIn made ≡ verdictOf (suc (model .taken)) ss → (eqb v 2 ≡ false → mask′ ≡ mask J.isOpen ss) → (eqb v 2 ≡ false → (r : ℕ) → member dues′ r ≡ (ltb r (length (S .rules)) && running (ruleAt (S .rules) r) (modelAt sts r))) → Represents (S .rules) (take (S .rules) model o) made
@@ -189,7 +189,7 @@ module _ (S : Sheet) (formed : WellFormedSheet S) (b : Book) (looks : Looks S b)
     looked (Clock time) = named-right (J.clock time) 0 0 time (omega arith) refl refl (λ r. false) (λ r. member-empty r ∙ sym (and-false (ltb r (length (S .rules))))) (λ r h st. refl)
 
   -- a stopped book gives its verdict again
-  pub alike : (model : M.Monitor) (m : Monitor) → Represents (S .rules) model m → (o : Observation) → Alike (S .rules) (observe (S .rules) model (seen o)) (observeOf tables (b .holders) m o)
+  pub alike : (model : M.Monitor) (m : Held) → Represents (S .rules) model m → (o : Observation) → Alike (S .rules) (observe (S .rules) model (seen o)) (observeOf tables (b .holders) m o)
   unfolding observeOf
   alike model m rep o = subst (λ (v : Verdict). Alike (S .rules) (orStopped (S .rules) model (seen o) v) (observeOf tables (b .holders) m o)) (rep .verdict′) (look (eqb (m .verdict) 2) refl (eqb (m .verdict) 1))
     where
@@ -200,7 +200,7 @@ module _ (S : Sheet) (formed : WellFormedSheet S) (b : Book) (looks : Looks S b)
 
 -- ---- the promise
 
-module _ (S : Sheet) (k : Kept) (b : Book) (m : Monitor) (f : Follows S k b m) (o : Observation) (oracle : Oracle) (right : Right (S .rules) oracle) where
+module _ (S : Sheet) (k : Kept) (b : Book) (m : Held) (f : Tracks S k b m) (o : Observation) (oracle : Oracle) (right : Right (S .rules) oracle) where
   abbrev r : Observed
   r = observeOf (record { heads = b .heads; fragments = b .fragments; names = b .names; ranges = b .ranges }) (b .holders) m o
 
@@ -219,7 +219,7 @@ module _ (S : Sheet) (k : Kept) (b : Book) (m : Monitor) (f : Follows S k b m) (
   pub observe-answers : said (r .answer) ≡ judge oracle k (seen o) .answer
   observe-answers = both .answer ∙ together (S .rules) k (f .model) (f .follows) (seen o) .answer ∙ ap (λ (t : J.Turn). t .answer) turn-is
 
-  pub observe-follows : Follows S (judge oracle k (seen o) .kept) b (r .monitor)
+  pub observe-follows : Tracks S (judge oracle k (seen o) .kept) b (r .monitor)
   observe-follows = record {
     formed = f .formed;
     looks = f .looks;
@@ -229,49 +229,89 @@ module _ (S : Sheet) (k : Kept) (b : Book) (m : Monitor) (f : Follows S k b m) (
     represents = both .represents;
   }
 
--- a refused observation gives back the same monitor, whatever the book and the monitor
-taken-unchanged : (t : Tables) (m : Monitor) (concerned name time n : ℕ) → said (takenOf t m concerned name time .answer) ≡ J.refused n → takenOf t m concerned name time .monitor ≡ m
-unfolding takenOf refusedOf
-taken-unchanged t m concerned name time n e = look (ltb time (m .latest)) (leb 4294967295 (m .taken)) e
-  where
-    P : Pass
-    P = passOf t concerned (m .mask) (m .dues) (m .rules) name time
+-- ---- a verdict is no refusal
 
-    never : (x y : Bool) → said (judgedBy x y P (m .taken + 1) time .answer) ≡ J.refused n → ⊥
-    never true true c = let w : _≡_ {A = ℕ} 0 1 = cc in zero-one w
-    never true false c = let w : _≡_ {A = ℕ} 0 1 = cc in zero-one w
-    never false y c = let w : _≡_ {A = ℕ} 0 1 = cc in zero-one w
+pub no-refusal : (v : Verdict) (n : ℕ) → J.verdict v ≡ J.refused n → ⊥
+no-refusal v n e = let w : _≡_ {A = ℕ} 0 1 = cc in zero-one w
 
-    look : (x y : Bool) → said (cond {A = Observed} x (record { monitor = m; answer = Refused 11 }) (cond y (record { monitor = m; answer = Refused 13 }) (judgedOf P (m .taken + 1) time)) .answer) ≡ J.refused n → cond {A = Observed} x (record { monitor = m; answer = Refused 11 }) (cond y (record { monitor = m; answer = Refused 13 }) (judgedOf P (m .taken + 1) time)) .monitor ≡ m
-    look true y c = refl
-    look false true c = refl
-    look false false c = absurd (never (eqb (P .broken) 0) (eqb (P .opens) 0) (ap (λ (r : Observed). said (r .answer)) (sym (judged-is P (m .taken + 1) time)) ∙ c))
+-- ---- an observation by its name
 
-looked-unchanged : (t : Tables) (holders : List ℕ) (m : Monitor) (o : Observation) (n : ℕ) → said (lookedOf t holders m o .answer) ≡ J.refused n → lookedOf t holders m o .monitor ≡ m
-unfolding lookedOf refusedOf
-looked-unchanged t holders m (Event name time) n e = look (leb 64 name) e
-  where
-    look : (x : Bool) → said (cond {A = Observed} x (record { monitor = m; answer = Refused 12 }) (takenOf t m (getD holders name 0) name time) .answer) ≡ J.refused n → cond {A = Observed} x (record { monitor = m; answer = Refused 12 }) (takenOf t m (getD holders name 0) name time) .monitor ≡ m
-    look true c = refl
-    look false c = taken-unchanged t m (getD holders name 0) name time n c
-looked-unchanged t holders m (Clock time) n e = taken-unchanged t m 0 0 time n e
+pub looked-past : (t : Tables) (holders : List ℕ) (m : Held) (o : Observation) → 64 ≤ nameOf o → lookedOf t holders m o ≡ refusedOf m 12
+unfolding lookedOf
+looked-past t holders m (Event name time) h = rw (le-leb 64 name h)
+looked-past t holders m (Clock time) h = absurd (omega arith)
 
-pub observe-unchanged : (t : Tables) (holders : List ℕ) (m : Monitor) (o : Observation) (n : ℕ) → said (observeOf t holders m o .answer) ≡ J.refused n → observeOf t holders m o .monitor ≡ m
-unfolding observeOf
-observe-unchanged t holders m o n e = look (eqb (m .verdict) 2) e
-  where
-    look : (x : Bool) → said (cond {A = Observed} x (record { monitor = m; answer = Broken (m .taken) (m .mask) }) (lookedOf t holders m o) .answer) ≡ J.refused n → cond {A = Observed} x (record { monitor = m; answer = Broken (m .taken) (m .mask) }) (lookedOf t holders m o) .monitor ≡ m
-    look true c = refl
-    look false c = looked-unchanged t holders m o n c
+pub looked-taken : (t : Tables) (holders : List ℕ) (m : Held) (o : Observation) → nameOf o < 64 → lookedOf t holders m o ≡ takenOf t m (concernedBy holders o) (nameOf o) (timeOf o)
+unfolding lookedOf
+looked-taken t holders m (Event name time) h = rw (lt-leb 64 name h)
+looked-taken t holders m (Clock time) h = refl
 
--- what the code's observing promises follows from its equation
-pub promise : (b : Book) (m : Monitor) (o : Observation) (r : Observed) → r ≡ observeOf (record { heads = b .heads; fragments = b .fragments; names = b .names; ranges = b .ranges }) (b .holders) m o → Observes b m o r
-promise b m o r e = record {
-  answers = λ S k f oracle right. ap (λ (x : Observed). said (x .answer)) e ∙ observe-answers S k b m f o oracle right;
-  follows = λ S k f oracle right. subst (λ (x : Observed). Follows S (judge oracle k (seen o) .kept) b (x .monitor)) (sym e) (observe-follows S k b m f o oracle right);
-  unchanged = λ n c. ap (λ (x : Observed). x .monitor) e ∙ observe-unchanged (record { heads = b .heads; fragments = b .fragments; names = b .names; ranges = b .ranges }) (b .holders) m o n (ap (λ (x : Observed). said (x .answer)) (sym e) ∙ c);
+-- ---- what the code leaves
+
+module _ (t : Tables) (before : List ℕ) (concerned name time : ℕ) where
+  abbrev m : Held
+  m = heldBy before
+
+  pub leaves-early : time < m .latest → Leaves before (takenOf t m concerned name time) (Refused 11) before
+  unfolding takenOf refusedOf
+  leaves-early h = record { long = λ l. l; leaves = λ l. sym (rw (lt-ltb time (m .latest) h)); unchanged = λ n e. refl }
+
+  pub leaves-full : m .latest ≤ time → 4294967295 ≤ m .taken → Leaves before (takenOf t m concerned name time) (Refused 13) before
+  unfolding takenOf refusedOf
+  leaves-full h g = record { long = λ l. l; leaves = λ l. sym (rw (le-ltb time (m .latest) h, le-leb 4294967295 (m .taken) g)); unchanged = λ n e. refl }
+
+  pub leaves-taken : m .latest ≤ time → m .taken < 4294967295 → (opens dues k : ℕ) → opens ≡ m .mask → dues ≡ m .dues → k ≡ m .taken + 1
+      → (p : Masks) (between : List ℕ) → Passes t concerned opens dues name time before p between
+      → (a : Answer) (after : List ℕ) → Judges between (judgedOf (record { rules = rulesIn between; broken = p .broken; opens = p .opens; dues = p .dues }) k time) a after
+      → Leaves before (takenOf t m concerned name time) a after
+  unfolding takenOf
+  leaves-taken h g opens dues k eo ed ek p between passes a after judges = record {
+    long = λ l. judges .long (passes .long l);
+    leaves = λ l.
+        judges .leaves (passes .long l) ∙ ap (λ (x : Pass). judgedOf x k time) (passes .passes l)
+        ∙ rw (eo, ed, ek, le-ltb time (m .latest) h, lt-leb 4294967295 (m .taken) g);
+    unchanged = λ n e. absurd (judges .taken n e);
+  }
+
+module _ (t : Tables) (holders before : List ℕ) (o : Observation) where
+  abbrev m′ : Held
+  m′ = heldBy before
+
+  pub leaves-stopped : m′ .verdict ≡ 2 → (k mask : ℕ) → k ≡ m′ .taken → mask ≡ m′ .mask → Leaves before (observeOf t holders m′ o) (Broken k mask) before
+  unfolding observeOf
+  leaves-stopped h k mask ek em = record {
+    long = λ l. l;
+    leaves = λ l. rw (ek, em) (sym (rw (eq-eqb (m′ .verdict) 2 h)));
+    unchanged = λ n e. absurd (no-refusal _ n e);
+  }
+
+  module _ (running′ : m′ .verdict ≡ 2 → ⊥) where
+    pub leaves-unnamed : 64 ≤ nameOf o → Leaves before (observeOf t holders m′ o) (Refused 12) before
+    unfolding observeOf refusedOf
+    leaves-unnamed h = record { long = λ l. l; leaves = λ l. sym (rw (ne-eqb (m′ .verdict) 2 running′) (looked-past t holders m′ o h)); unchanged = λ n e. refl }
+
+    pub leaves-named : nameOf o < 64 → (a : Answer) (after : List ℕ) → Leaves before (takenOf t m′ (concernedBy holders o) (nameOf o) (timeOf o)) a after → Leaves before (observeOf t holders m′ o) a after
+    unfolding observeOf
+    leaves-named h a after l = record {
+      long = l .long;
+      leaves = λ e. l .leaves e ∙ sym (rw (ne-eqb (m′ .verdict) 2 running′) (looked-taken t holders m′ o h));
+      unchanged = l .unchanged;
+    }
+
+-- what the code's observing promises follows from what it leaves
+promise : (b : Book) (before : List ℕ) (o : Observation) (a : Answer) (after : List ℕ)
+    → Leaves before (observeOf (record { heads = b .heads; fragments = b .fragments; names = b .names; ranges = b .ranges }) (b .holders) (heldBy before) o) a after → Observes b before o a after
+promise b before o a after l = record {
+  answers = λ S k f oracle right. ap (λ (x : Observed). said (x .answer)) (l .leaves (f .long)) ∙ observe-answers S k b (heldBy before) (f .tracks) o oracle right;
+  follows = λ S k f oracle right. record {
+    long = l .long (f .long);
+    tracks = subst (λ (x : Observed). Tracks S (judge oracle k (seen o) .kept) b (x .monitor)) (sym (l .leaves (f .long))) (observe-follows S k b (heldBy before) (f .tracks) o oracle right);
+  };
+  unchanged = l .unchanged;
 }
 
 -- the same of the arrays that the call is lent
-pub lent-promise : (heads fragments names ranges holders : List ℕ) (m : Monitor) (o : Observation) (r : Observed) → r ≡ observeOf (record { heads = heads; fragments = fragments; names = names; ranges = ranges }) holders m o → ObservesLent heads fragments names ranges holders m o r
-lent-promise heads fragments names ranges holders m o r e b l = promise b m o r (rw (l .heads′, l .fragments′, l .names′, l .ranges′, l .holders′) e)
+pub lent-promise : (heads fragments names ranges holders before : List ℕ) (o : Observation) (a : Answer) (after : List ℕ)
+    → Leaves before (observeOf (record { heads = heads; fragments = fragments; names = names; ranges = ranges }) holders (heldBy before) o) a after
+    → ObservesLent heads fragments names ranges holders before o a after
+lent-promise heads fragments names ranges holders before o a after l b e = promise b before o a after (rw (e .heads′, e .fragments′, e .names′, e .ranges′, e .holders′) l)

@@ -1,13 +1,15 @@
 -- The loop over the rules that are looked at. `todo` is the mask of those that are left, so a rule has been seen if it is to be looked at and is not in `todo`. The states of the rules
 -- seen are new, and the masks speak of those; when nothing is left, the rules seen are all that are looked at, and a mask is settled by its members.
 -- Assumes nothing.
-use mathlib.Core.Path.{_≡_, refl, sym, ap, _∙_}
+use mathlib.Core.Path.{_≡_, refl, sym, ap, _∙_, subst}
 use mathlib.Core.Bool.{Bool, true, false, cond, not, _&&_, _||_, and-true, and-false, or-false, or-self, and-not-self}
 use mathlib.Core.List.{List, [], _∷_}
-use Prim.Native.Nat.{ℕ, zero, suc, _^_, _<_}
+use Prim.Native.Nat.{ℕ, zero, suc, _+_, _%_, _^_, _<_}
+use native.Mathlib.Nat.{zero-add}
 use native.Mathlib.Omega.{arith}
 use lib.Dec.{eqb}
 use lib.ListN.{length, getD, set}
+use lib.Seq.{set-getD}
 use borrow.Author.Tests.{eqb-true, eq-eqb, ne-eqb, lt-ltb}
 use Rattle.names.specs.Names.{member}
 use Rattle.names.proofs.Sets.{member-empty}
@@ -17,9 +19,10 @@ use Rattle.step.specs.declared.RuleState.{RuleState}
 use Rattle.step.specs.declared.Stepped.{Stepped}
 use Rattle.step.specs.Upto.{mapN}
 use Rattle.step.specs.Steps.{Tables}
-use Rattle.monitor.specs.declared.Pass.{Pass}
-use Rattle.monitor.specs.Pass.{ruleOf, isBroken, isOpen, isDue, noState, touched, stepOf, standingAt, stateAt, brokenAt, openAt, dueAt, passOf}
-use Rattle.monitor.proofs.Places.{mapN-alike, mapN-same, set-mapN}
+use Rattle.words.specs.Words.{noState, rulesIn, Stores}
+use Rattle.words.proofs.Laws.{sixteen}
+use Rattle.monitor.specs.Pass.{Pass, Steps, ruleOf, isBroken, isOpen, isDue, touched, stepOf, standingAt, stateAt, brokenAt, openAt, dueAt, passOf}
+use Rattle.words.proofs.Places.{mapN-alike, mapN-same, set-mapN, getD-mapN}
 
 -- ---- tests
 
@@ -56,6 +59,34 @@ getD-any : {A : Type 0} (l : List A) (i : ℕ) (d e : A) → i < length l → ge
 getD-any [] i d e h = absurd (omega arith)
 getD-any (x ∷ l) zero d e h = refl
 getD-any (x ∷ l) (suc i) d e h = getD-any l i d e (omega arith)
+
+-- ---- one rule, in the words
+
+module _ (b : Tables) (concerned r name time : ℕ) (before after : List ℕ) (s : Stepped) (rule : r < 16)
+    (stepped : s ≡ ruleOf b concerned r (getD (rulesIn before) (r % 16) noState) name time) where
+  own : r % 16 ≡ r
+  own = omega arith
+
+  stepped-own : s ≡ ruleOf b concerned r (getD (rulesIn before) r noState) name time
+  stepped-own = stepped ∙ ap (λ (i : ℕ). ruleOf b concerned r (getD (rulesIn before) i noState) name time) own
+
+  -- its new state is stored
+  pub steps-stored : (length before ≡ 34 → Stores before (r % 16) (s .state) after) → Steps b concerned r name time before (s .standing) after
+  steps-stored st = record {
+    stands = ap (λ (x : Stepped). x .standing) stepped-own;
+    long = λ l. st l .long;
+    moves = λ l. st l .rules ∙ ap (λ (i : ℕ). set (rulesIn before) i (s .state)) own ∙ ap (λ (x : Stepped). set (rulesIn before) r (x .state)) stepped-own;
+  }
+
+  -- its state is what it was
+  pub steps-kept : s .state ≡ getD (rulesIn before) (r % 16) noState → Steps b concerned r name time before (s .standing) before
+  steps-kept e = record {
+    stands = ap (λ (x : Stepped). x .standing) stepped-own;
+    long = λ l. l;
+    moves = λ l.
+        sym (ap (λ (x : Stepped). set (rulesIn before) r (x .state)) (sym stepped-own) ∙ ap (set (rulesIn before) r) (e ∙ ap (λ (i : ℕ). getD (rulesIn before) i noState) own)
+        ∙ set-getD (rulesIn before) r noState);
+  }
 
 -- ---- the loop
 
@@ -104,6 +135,13 @@ module _ (b : Tables) (concerned opens dues : ℕ) (old : List RuleState) (name 
         opened = λ k. rw (none-seen todo u k) (w .members k ∙ ap (λ (t : Bool). member opens k && not t) (u .members k));
         due = λ k. rw (none-seen todo u k) (member-empty k);
       }
+
+  -- a rule that is left stands as it did
+  pub left-alone : {rules : List RuleState} {br op du todo r : ℕ} → Passing rules br op du todo → member todo r ≡ true → r < 16 → getD rules r noState ≡ getD old r noState
+  left-alone {rules} {br} {op} {du} {todo} {r} p inside h =
+      let unseen : seen todo (0 + r) ≡ false = rw (ap (member todo) (zero-add r) ∙ inside) (and-false (looks (0 + r))) in
+      ap (λ (l : List RuleState). getD l r noState) (p .states) ∙ getD-mapN (seenState todo) noState 0 16 old r h (omega (arith, p .sixteen))
+      ∙ ap (λ (t : Bool). cond t (step (0 + r) (getD old r noState) .state) (getD old r noState)) unseen
 
   -- one turn: rule r leaves `todo`
   module _ {rules : List RuleState} {br op du todo todo′ r : ℕ} {s : Stepped} (d : RuleState)
@@ -172,6 +210,19 @@ module _ (b : Tables) (concerned opens dues : ℕ) (old : List RuleState) (name 
           opened = keeps-more op′ isOp eo wo;
           due = gathers-more isDue du du′ isDu ed wd (p .due);
         }
+
+  -- the same turn, in the words
+  pub passing-next : {before after : List ℕ} {br op du todo todo′ r k : ℕ} → Passing (rulesIn before) br op du todo → member todo r ≡ true → r < 16 → Less todo r todo′
+      → Steps b concerned r name time before k after → length before ≡ 34 → {br′ op′ du′ : ℕ} {isBr isOp isDu : Bool} → isBr ≡ isBroken k → With br r isBr br′ → br′ < 2 ^ 16
+      → isOp ≡ isOpen k → With op r isOp op′ → op′ < 2 ^ 16 → isDu ≡ isDue k → With du r isDu du′ → du′ < 2 ^ 16
+      → Passing (rulesIn after) br′ op′ du′ todo′
+  passing-next {before} {after} {todo′ = todo′} {r = r} {k = k} p inside rule left st l {br′} {op′} {du′} eb wb hb eo wo ho ed wd hd =
+      let was : getD (rulesIn before) r noState ≡ getD old r noState = left-alone p inside rule in
+      let s : Stepped = ruleOf b concerned r (getD old r noState) name time in
+      let stand : k ≡ s .standing = st .stands ∙ ap (λ (x : RuleState). ruleOf b concerned r x name time .standing) was in
+      let next : rulesIn after ≡ set (rulesIn before) r (s .state) = st .moves l ∙ ap (λ (x : RuleState). set (rulesIn before) r (ruleOf b concerned r x name time .state)) was in
+      subst (λ (rules : List RuleState). Passing rules br′ op′ du′ todo′) (sym next)
+      (passing-more noState p inside rule left refl (eb ∙ ap isBroken stand) wb hb (eo ∙ ap isOpen stand) wo ho (ed ∙ ap isDue stand) wd hd)
 
   -- nothing is left
   pub passing-end : {rules : List RuleState} {br op du todo : ℕ} → Passing rules br op du todo → todo ≡ 0

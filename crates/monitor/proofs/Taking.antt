@@ -26,18 +26,13 @@ use Rattle.step.specs.Steps.{Tables, planOf}
 use Rattle.step.specs.Decode.{decode}
 use Rattle.step.proofs.Status.{running}
 use Rattle.step.proofs.Links.{Rules, Stands}
-use Rattle.monitor.specs.Pass.{noState, touched, stateAt, brokenAt, openAt, dueAt, passOf}
-use Rattle.monitor.specs.declared.Pass.{Pass}
+use Rattle.words.specs.Words.{noState}
+use Rattle.words.proofs.Places.{getD-mapN}
+use Rattle.monitor.specs.Pass.{Pass, touched, stateAt, brokenAt, openAt, dueAt, passOf}
 use Rattle.monitor.specs.Promise.{modelAt}
 use Rattle.monitor.proofs.Rulewise.{Ruled, ruled}
 
 -- ---- lists by their elements
-
-pub getD-mapN : {A : Type 0} (f : ℕ → A → A) (d : A) (k n : ℕ) (l : List A) (i : ℕ) → i < n → n ≤ length l → getD (mapN f k n l) i d ≡ f (k + i) (getD l i d)
-getD-mapN f d k zero l i h w = absurd (not-suc-le-zero h)
-getD-mapN f d k (suc n) [] i h w = absurd (not-suc-le-zero w)
-getD-mapN f d k (suc n) (x ∷ l) zero h w = ap (λ (j : ℕ). f j x) (omega arith)
-getD-mapN f d k (suc n) (x ∷ l) (suc i) h w = getD-mapN f d (suc k) n l i (omega arith) (omega arith) ∙ ap (λ (j : ℕ). f j (getD l i d)) (omega arith)
 
 pub after-length : (rules : List Rule) (sts : List M.RuleState) (o : J.Observation) → length sts ≡ length rules → length (afterAll rules sts o) ≡ length rules
 after-length [] sts o e = refl

@@ -20,13 +20,12 @@ use Rattle.book.specs.declared.Book.{Book}
 use Rattle.step.specs.Decode.{decode}
 use Rattle.step.proofs.Status.{running}
 use Rattle.step.proofs.Links.{Stands}
-use Rattle.monitor.specs.Pass.{noState}
-use Rattle.monitor.specs.declared.Monitor.{Monitor}
+use Rattle.words.specs.Words.{noState, Held, heldBy}
+use Rattle.monitor.specs.Observe.{Observed}
 use Rattle.monitor.specs.declared.Observation.{Observation}
 use Rattle.monitor.specs.declared.Observation.the-variants.{Event, Clock}
 use Rattle.monitor.specs.declared.Answer.{Answer}
 use Rattle.monitor.specs.declared.Answer.the-variants.{Whole, Open, Broken, Refused}
-use Rattle.monitor.specs.declared.Observed.{Observed}
 
 -- ---- the judge's value for each case of an answer and an observation
 
@@ -41,12 +40,12 @@ seen (Event name time) = J.event name time
 seen (Clock time) = J.clock time
 
 -- the verdict that a monitor holds: 2 is broken, at the last observation taken; 1 is open
-abbrev pub verdictIn : Monitor → Verdict
+abbrev pub verdictIn : Held → Verdict
 verdictIn m = cond (eqb (m .verdict) 2) (brokenAt (m .taken) (m .mask)) (cond (eqb (m .verdict) 1) (someOpen (m .mask)) allWhole)
 
--- an answer says the verdict that a monitor holds
-abbrev pub Says : Answer → Monitor → Type 0
-Says a m = said a ≡ J.verdict (verdictIn m)
+-- an answer says the verdict that the monitor in these words holds
+abbrev pub Says : Answer → List ℕ → Type 0
+Says a m = said a ≡ J.verdict (verdictIn (heldBy m))
 
 -- ---- a monitor's numbers, and the state of the model that they stand for
 
@@ -54,7 +53,7 @@ Says a m = said a ≡ J.verdict (verdictIn m)
 abbrev pub modelAt : List M.RuleState → ℕ → M.RuleState
 modelAt sts r = getD sts r (decode noState)
 
-pub record Represents (rules : List Rule) (model : M.Monitor) (m : Monitor) : Type 0 where
+pub record Represents (rules : List Rule) (model : M.Monitor) (m : Held) : Type 0 where
   pub sixteen : length (m .rules) ≡ 16
   pub many : length (model .rules) ≡ length rules
   pub state : (r : ℕ) → r < length rules → decode (getD (m .rules) r noState) ≡ modelAt (model .rules) r
@@ -69,8 +68,8 @@ pub record Represents (rules : List Rule) (model : M.Monitor) (m : Monitor) : Ty
 
 -- ---- the relation
 
--- the monitor follows the judge's kept list and verdict, under the book of the sheet
-pub record Follows (S : Sheet) (k : Kept) (b : Book) (m : Monitor) : Type 0 where
+-- a monitor's numbers follow the judge's kept list and verdict, under the book of the sheet
+pub record Tracks (S : Sheet) (k : Kept) (b : Book) (m : Held) : Type 0 where
   pub formed : WellFormedSheet S
   pub looks : Looks S b
   pub falls : NeverFalls 0 (k .taken)
@@ -78,14 +77,31 @@ pub record Follows (S : Sheet) (k : Kept) (b : Book) (m : Monitor) : Type 0 wher
   pub follows : A.Follows (S .rules) k model
   pub represents : Represents (S .rules) model m
 
+-- the monitor in these words does
+pub record Follows (S : Sheet) (k : Kept) (b : Book) (m : List ℕ) : Type 0 where
+  pub long : length m ≡ 34
+  pub tracks : Tracks S k b (heldBy m)
+
 -- ---- the promise
 
--- one observation: the judge's next answer, and the monitor follows what the judge then keeps; a refused observation gives back an equal monitor. Of a book and a monitor that follow no
--- judge's list nothing is promised but that the call returns
-pub record Observes (b : Book) (m : Monitor) (o : Observation) (r : Observed) : Type 0 where
-  pub answers : (S : Sheet) (k : Kept) → Follows S k b m → (oracle : Oracle) → Right (S .rules) oracle → said (r .answer) ≡ judge oracle k (seen o) .answer
-  pub follows : (S : Sheet) (k : Kept) → Follows S k b m → (oracle : Oracle) → Right (S .rules) oracle → Follows S (judge oracle k (seen o) .kept) b (r .monitor)
-  pub unchanged : (n : ℕ) → said (r .answer) ≡ J.refused n → r .monitor ≡ m
+-- what one observation leaves in a monitor's words, which are 34, as their type says: the monitor of a pair, its answer being the other half; a refused observation leaves every word
+pub record Leaves (before : List ℕ) (o : Observed) (a : Answer) (after : List ℕ) : Type 0 where
+  pub long : length before ≡ 34 → length after ≡ 34
+  pub leaves : length before ≡ 34 → record { monitor = heldBy after; answer = a } ≡ o
+  pub unchanged : (n : ℕ) → said a ≡ J.refused n → after ≡ before
+
+-- the same of a verdict, which is no refusal
+pub record Judges (before : List ℕ) (o : Observed) (a : Answer) (after : List ℕ) : Type 0 where
+  pub long : length before ≡ 34 → length after ≡ 34
+  pub leaves : length before ≡ 34 → record { monitor = heldBy after; answer = a } ≡ o
+  pub taken : (n : ℕ) → said a ≡ J.refused n → ⊥
+
+-- one observation: the judge's next answer, and the monitor follows what the judge then keeps; a refused observation leaves every word as it was. Of a book and a monitor that follow no
+-- judge's list nothing else is promised but that the call returns
+pub record Observes (b : Book) (before : List ℕ) (o : Observation) (a : Answer) (after : List ℕ) : Type 0 where
+  pub answers : (S : Sheet) (k : Kept) → Follows S k b before → (oracle : Oracle) → Right (S .rules) oracle → said a ≡ judge oracle k (seen o) .answer
+  pub follows : (S : Sheet) (k : Kept) → Follows S k b before → (oracle : Oracle) → Right (S .rules) oracle → Follows S (judge oracle k (seen o) .kept) b after
+  pub unchanged : (n : ℕ) → said a ≡ J.refused n → after ≡ before
 
 -- the arrays that a call is lent are this book's
 pub record Lends (heads fragments names ranges holders : List ℕ) (b : Book) : Type 0 where
@@ -96,27 +112,27 @@ pub record Lends (heads fragments names ranges holders : List ℕ) (b : Book) : 
   pub holders′ : b .holders ≡ holders
 
 -- the call: of whatever book the arrays are
-abbrev pub ObservesLent : List ℕ → List ℕ → List ℕ → List ℕ → List ℕ → Monitor → Observation → Observed → Type 0
-ObservesLent heads fragments names ranges holders m o r = (b : Book) → Lends heads fragments names ranges holders b → Observes b m o r
+abbrev pub ObservesLent : List ℕ → List ℕ → List ℕ → List ℕ → List ℕ → List ℕ → Observation → Answer → List ℕ → Type 0
+ObservesLent heads fragments names ranges holders before o a after = (b : Book) → Lends heads fragments names ranges holders b → Observes b before o a after
 
 -- a fresh monitor follows the judge that has kept nothing
-abbrev pub Freshes : List ℕ → Monitor → Type 0
+abbrev pub Freshes : List ℕ → List ℕ → Type 0
 Freshes fragments m = (S : Sheet) (b : Book) → WellFormedSheet S → Looks S b → b .fragments ≡ fragments → Follows S nothing b m
 
 -- ---- a run of calls
 
 -- one observation after the other, each on what the last one left; `Observes` is all that the call promises
-pub data Run (b : Book) : Monitor → List Observation → List Answer → Monitor → Type 0 where
-  done : {m : Monitor} → Run b m [] [] m
-  more : {m last : Monitor} {o : Observation} {os : List Observation} {as′ : List Answer} {r : Observed} → Observes b m o r → Run b (r .monitor) os as′ last → Run b m (o ∷ os) (r .answer ∷ as′) last
+pub data Run (b : Book) : List ℕ → List Observation → List Answer → List ℕ → Type 0 where
+  done : {m : List ℕ} → Run b m [] [] m
+  more : {m next last : List ℕ} {o : Observation} {os : List Observation} {a : Answer} {as′ : List Answer} → Observes b m o a next → Run b next os as′ last → Run b m (o ∷ os) (a ∷ as′) last
 
 -- demand 3 for such a run: the judge's answers in order, the length of its list, and its verdict
-pub record RunAgrees (S : Sheet) (os : List Observation) (as′ : List Answer) (m : Monitor) (oracle : Oracle) : Type 0 where
+pub record RunAgrees (S : Sheet) (os : List Observation) (as′ : List Answer) (m : List ℕ) (oracle : Oracle) : Type 0 where
   pub answered : map said as′ ≡ judgeAnswers oracle nothing (map seen os)
-  pub taken : m .taken ≡ length (judgeKeeps oracle nothing (map seen os) .taken)
-  pub verdict : verdictIn m ≡ judgeKeeps oracle nothing (map seen os) .verdict
+  pub taken : heldBy m .taken ≡ length (judgeKeeps oracle nothing (map seen os) .taken)
+  pub verdict : verdictIn (heldBy m) ≡ judgeKeeps oracle nothing (map seen os) .verdict
 
-pub record CodeAgreement (S : Sheet) (os : List Observation) (as′ : List Answer) (m : Monitor) : Type 0 where
+pub record CodeAgreement (S : Sheet) (os : List Observation) (as′ : List Answer) (m : List ℕ) : Type 0 where
   -- a judge exists, and with every one of them the run agrees
   pub judged : (oracle : Oracle) × Right (S .rules) oracle
   pub agrees : (oracle : Oracle) → Right (S .rules) oracle → RunAgrees S os as′ m oracle

@@ -79,7 +79,7 @@ fn step<'a>(
     m: Monitor,
     o: Observation,
 ) -> Monitor {
-    let r = monitor::observe(heads, fragments, names, ranges, holders, m, o);
+    let r = monitor::step(heads, fragments, names, ranges, holders, m, o);
     let answer = r.answer;
     tell(answer);
     let next = r.monitor;
@@ -120,17 +120,18 @@ fn replay(taken: u32, sheet: &[u8], log: &[u8]) {
     let t = book::translate(sheet);
     let b = t.book;
     let fragments = b.fragments;
-    let mut m = monitor::fresh(&fragments);
-    m.taken = taken;
+    let mut m = monitor::start(&fragments);
+    // word 32 has the number taken and, in its upper half, the latest time, 0 here
+    m.words[32] = taken as u64;
     let heads = b.heads;
     let names = b.names;
     let ranges = b.ranges;
     let holders = b.holders;
     let last = observe_all(&heads, &fragments, &names, &ranges, &holders, m, log);
     io::write_all(STDOUT, b" |");
-    tell(monitor::verdict(last));
+    tell(monitor::verdict_of(last));
     io::write_all(STDOUT, b" ");
-    print(last.taken as u64);
+    print(monitor::taken_by(last) as u64);
     io::write_all(STDOUT, b"\n");
 }
 

@@ -12,7 +12,6 @@ use Rattle.pattern.specs.Judge.{Oracle, Right, Kept, nothing, judge}
 use Rattle.sheet.specs.Layout.{Sheet, WellFormedSheet}
 use Rattle.book.specs.Looks.{Looks}
 use Rattle.book.specs.declared.Book.{Book}
-use Rattle.monitor.specs.declared.Monitor.{Monitor}
 use Rattle.monitor.specs.declared.Observation.{Observation}
 use Rattle.monitor.specs.Promise.{seen, Lends, Follows, Freshes}
 use Rattle.monitor.proofs.Agreement.{follows-taken, follows-verdict}
@@ -39,18 +38,18 @@ module _ (oracle : Oracle) (log : List ℕ) (k : Kept) (i : ℕ) where
 
 -- ---- the loop
 
-pub record Reached (oracle : Oracle) (S : Sheet) (b : Book) (log : List ℕ) (n : ℕ) (m : Monitor) (i : ℕ) : Type 0 where
+pub record Reached (oracle : Oracle) (S : Sheet) (b : Book) (log : List ℕ) (n : ℕ) (m : List ℕ) (i : ℕ) : Type 0 where
   pub k : Kept
   pub follows : Follows S k b m
   pub rest : play oracle log nothing 0 n ≡ play oracle log k i (n - i)
 
 module _ (heads fragments names ranges holders log : List ℕ) (n : ℕ) where
-  abbrev pub Playing : Monitor → ℕ → Type 0
+  abbrev pub Playing : List ℕ → ℕ → Type 0
   Playing m i =
       (i ≤ n) × ((S : Sheet) (b : Book) → WellFormedSheet S → Looks S b → Lends heads fragments names ranges holders b
       → (oracle : Oracle) → Right (S .rules) oracle → Reached oracle S b log n m i)
 
-  pub start : (m : Monitor) → Freshes fragments m → Playing m 0
+  pub start : (m : List ℕ) → Freshes fragments m → Playing m 0
   start m fresh = (
     omega arith,
     λ S b formed looks lent oracle right. record {
@@ -60,7 +59,7 @@ module _ (heads fragments names ranges holders log : List ℕ) (n : ℕ) where
     },
   )
 
-  module _ (m : Monitor) (i : ℕ) (playing : Playing m i) where
+  module _ (m : List ℕ) (i : ℕ) (playing : Playing m i) where
     pub done : n ≤ i → (r : Outcome) → r ≡ endedIn m → Plays heads fragments names ranges holders log n r
     done h r e S b formed looks lent oracle right =
         let p = playing .1 S b formed looks lent oracle right in
@@ -68,19 +67,19 @@ module _ (heads fragments names ranges holders log : List ℕ) (n : ℕ) where
         e ∙ ap₂ ended (follows-verdict S (p .k) b m (p .follows)) (follows-taken S (p .k) b m (p .follows))
         ∙ sym (p .rest ∙ ap (play oracle log (p .k) i) z ∙ play-end oracle log (p .k) i)
 
-    module _ (h : i < n) (o : Observation) (is : seen o ≡ recordAt log i) (t : Turned) (turns : TurnsLent heads fragments names ranges holders m o (5 * i) t) where
+    module _ (h : i < n) (o : Observation) (is : seen o ≡ recordAt log i) (t : Turned) (next : List ℕ) (turns : TurnsLent heads fragments names ranges holders m o (5 * i) t next) where
       -- the judge's turn at record i
       module _ (S : Sheet) (b : Book) (formed : WellFormedSheet S) (looks : Looks S b) (lent : Lends heads fragments names ranges holders b) (oracle : Oracle) (right : Right (S .rules) oracle) where
         reached : Reached oracle S b log n m i
         reached = playing .1 S b formed looks lent oracle right
 
-        turned : Turns oracle S (reached .k) b (recordAt log i) (5 * i) t
-        turned = subst (λ x. Turns oracle S (reached .k) b x (5 * i) t) is (turns b lent S (reached .k) (reached .follows) oracle right)
+        turned : Turns oracle S (reached .k) b (recordAt log i) (5 * i) t next
+        turned = subst (λ x. Turns oracle S (reached .k) b x (5 * i) t next) is (turns b lent S (reached .k) (reached .follows) oracle right)
 
         left : play oracle log nothing 0 n ≡ play oracle log (reached .k) i (suc (n - (i + 1)))
         left = reached .rest ∙ ap (play oracle log (reached .k) i) (omega arith)
 
-      pub more : t .stops ≡ false → Playing (t .monitor) (i + 1)
+      pub more : t .stops ≡ false → Playing next (i + 1)
       more e = (
         omega arith,
         λ S b formed looks lent oracle right.

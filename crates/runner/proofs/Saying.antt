@@ -12,12 +12,11 @@ use Rattle.pattern.specs.Judge as J
 use Rattle.sheet.specs.Form.{number}
 use Rattle.sheet.specs.Layout.{Sheet}
 use Rattle.book.specs.declared.Book.{Book}
-use Rattle.monitor.specs.declared.Monitor.{Monitor}
+use Rattle.words.specs.Words.{heldBy}
 use Rattle.monitor.specs.declared.Observation.{Observation}
 use Rattle.monitor.specs.declared.Answer.{Answer}
 use Rattle.monitor.specs.declared.Answer.the-variants.{Whole, Open, Broken, Refused}
 use Rattle.monitor.proofs.Answer.{the-type}
-use Rattle.monitor.specs.declared.Observed.{Observed}
 use Rattle.monitor.specs.Promise.{said, seen, verdictIn, Says, Follows, Lends, ObservesLent}
 use Rattle.monitor.proofs.Agreement.{follows-taken, follows-verdict}
 use Rattle.runner.specs.Log.{ended, openMask, refusedAt, stops, stoppedBy}
@@ -38,10 +37,10 @@ abbrev inside : J.Answer → Verdict
 inside (J.verdict v) = v
 inside (J.refused n) = allWhole
 
-pub says-ended : (m : Monitor) {a b : Answer} → Says a m → a ≡ b → ended (inside (said b)) (m .taken) ≡ endedIn m
-says-ended m says e = ap (λ (x : Answer). ended (inside (said x)) (m .taken)) (sym e) ∙ ap (λ (x : J.Answer). ended (inside x) (m .taken)) says
+pub says-ended : (m : List ℕ) {a b : Answer} → Says a m → a ≡ b → ended (inside (said b)) (heldBy m .taken) ≡ endedIn m
+says-ended m says e = ap (λ (x : Answer). ended (inside (said x)) (heldBy m .taken)) (sym e) ∙ ap (λ (x : J.Answer). ended (inside x) (heldBy m .taken)) says
 
-pub says-open : (m : Monitor) {a b : Answer} → Says a m → a ≡ b → openMask (inside (said b)) ≡ openMask (verdictIn m)
+pub says-open : (m : List ℕ) {a b : Answer} → Says a m → a ≡ b → openMask (inside (said b)) ≡ openMask (verdictIn (heldBy m))
 says-open m says e = ap (λ (x : Answer). openMask (inside (said x))) (sym e) ∙ ap (λ (x : J.Answer). openMask (inside x)) says
 
 -- an arm that names no variant: the answer is one of those left
@@ -55,8 +54,8 @@ all-whole (Open x) h = absurd (⊎-elim (λ e. omega arith) (λ e. omega arith) 
 all-whole (Broken k x) h = absurd (⊎-elim (λ e. omega arith) (λ e. omega arith) h)
 all-whole (Refused n) h = refl
 
-pub says-whole : (m : Monitor) (a : Answer) → Says a m → (variant a ≡ 0) ⊎ (variant a ≡ 3) → ended allWhole (m .taken) ≡ endedIn m
-says-whole m a says h = ap (λ (v : Verdict). ended v (m .taken)) (sym (all-whole a h)) ∙ says-ended m {a = a} says refl
+pub says-whole : (m : List ℕ) (a : Answer) → Says a m → (variant a ≡ 0) ⊎ (variant a ≡ 3) → ended allWhole (heldBy m .taken) ≡ endedIn m
+says-whole m a says h = ap (λ (v : Verdict). ended v (heldBy m .taken)) (sym (all-whole a h)) ∙ says-ended m {a = a} says refl
 
 none-open : (a : Answer) → (variant a ≡ 0) ⊎ ((variant a ≡ 2) ⊎ (variant a ≡ 3)) → openMask (inside (said a)) ≡ 0
 none-open Whole h = refl
@@ -64,7 +63,7 @@ none-open (Open x) h = absurd (⊎-elim (λ e. omega arith) (⊎-elim (λ e. ome
 none-open (Broken k x) h = refl
 none-open (Refused n) h = refl
 
-pub says-none : (m : Monitor) (a : Answer) → Says a m → (variant a ≡ 0) ⊎ ((variant a ≡ 2) ⊎ (variant a ≡ 3)) → 0 ≡ openMask (verdictIn m)
+pub says-none : (m : List ℕ) (a : Answer) → Says a m → (variant a ≡ 0) ⊎ ((variant a ≡ 2) ⊎ (variant a ≡ 3)) → 0 ≡ openMask (verdictIn (heldBy m))
 says-none m a says h = sym (none-open a h) ∙ says-open m {a = a} says refl
 
 goes : (a : Answer) → (variant a ≡ 0) ⊎ (variant a ≡ 1) → stops (said a) ≡ false
@@ -75,38 +74,39 @@ goes (Refused n) h = absurd (⊎-elim (λ e. omega arith) (λ e. omega arith) h)
 
 -- ---- one observation's answer
 
-module _ {heads fragments names ranges holders : List ℕ} {m : Monitor} {o : Observation} {s : Observed} (observes : ObservesLent heads fragments names ranges holders m o s) (at : ℕ) (t : Turned)
-    (same : t .monitor ≡ s .monitor) where
+module _ {heads fragments names ranges holders before after : List ℕ} {o : Observation} {s : Answer} (observes : ObservesLent heads fragments names ranges holders before o s after) (at : ℕ) (t : Turned) where
   -- what is known of a turn, whatever the answer
-  module _ (b : Book) (lent : Lends heads fragments names ranges holders b) (S : Sheet) (k : Kept) (f : Follows S k b m) (oracle : Oracle) (right : Right (S .rules) oracle) where
-    answered : said (s .answer) ≡ judge oracle k (seen o) .answer
+  module _ (b : Book) (lent : Lends heads fragments names ranges holders b) (S : Sheet) (k : Kept) (f : Follows S k b before) (oracle : Oracle) (right : Right (S .rules) oracle) where
+    answered : said s ≡ judge oracle k (seen o) .answer
     answered = observes b lent .answers S k f oracle right
 
-    followed : Follows S (judge oracle k (seen o) .kept) b (s .monitor)
+    followed : Follows S (judge oracle k (seen o) .kept) b after
     followed = observes b lent .follows S k f oracle right
 
-    abbrev after : Kept
-    after = judge oracle k (seen o) .kept
+    abbrev kept : Kept
+    kept = judge oracle k (seen o) .kept
 
-    turns : (a : Answer) → s .answer ≡ a → t .stops ≡ stops (said a) → (t .stops ≡ true → t .outcome ≡ stoppedBy (said a) k after at) → Turns oracle S k b (seen o) at t
+    turns : (a : Answer) → s ≡ a → t .stops ≡ stops (said a) → (t .stops ≡ true → t .outcome ≡ stoppedBy (said a) k kept at) → Turns oracle S k b (seen o) at t after
     turns a e st says = record {
       stops′ = st ∙ ap stops (ap said (sym e) ∙ answered);
-      says = λ h. says h ∙ ap (λ (x : J.Answer). stoppedBy x k after at) (ap said (sym e) ∙ answered);
-      follows = subst (Follows S after b) (sym same) followed;
+      says = λ h. says h ∙ ap (λ (x : J.Answer). stoppedBy x k kept at) (ap said (sym e) ∙ answered);
+      follows = followed;
     }
 
   never : {A : Type 0} → false ≡ true → A
   never e = let z : _≡_ {A = ℕ} 0 1 = cc in absurd (omega arith)
 
-  pub turn-goes : (variant (s .answer) ≡ 0) ⊎ (variant (s .answer) ≡ 1) → t .stops ≡ false → TurnsLent heads fragments names ranges holders m o at t
-  turn-goes h st b lent S k f oracle right = turns b lent S k f oracle right (s .answer) refl (st ∙ sym (goes (s .answer) h)) (λ e. never (sym st ∙ e))
+  pub turn-goes : (variant s ≡ 0) ⊎ (variant s ≡ 1) → t .stops ≡ false → TurnsLent heads fragments names ranges holders before o at t after
+  turn-goes h st b lent S k f oracle right = turns b lent S k f oracle right s refl (st ∙ sym (goes s h)) (λ e. never (sym st ∙ e))
 
-  pub turn-broken : {j x : ℕ} → s .answer ≡ Broken j x → t .stops ≡ true → t .outcome ≡ ended (J.brokenAt j x) (s .monitor .taken) → TurnsLent heads fragments names ranges holders m o at t
+  pub turn-broken : {j x : ℕ} → s ≡ Broken j x → t .stops ≡ true → t .outcome ≡ ended (J.brokenAt j x) (heldBy after .taken) → TurnsLent heads fragments names ranges holders before o at t after
   turn-broken {j} {x} e st says b lent S k f oracle right =
       turns b lent S k f oracle right (Broken j x) e st
-      (λ h. says ∙ ap (ended (J.brokenAt j x)) (follows-taken S (judge oracle k (seen o) .kept) b (s .monitor) (followed b lent S k f oracle right)))
+      (λ h. says ∙ ap (ended (J.brokenAt j x)) (follows-taken S (judge oracle k (seen o) .kept) b after (followed b lent S k f oracle right)))
 
-  pub turn-refused : {n : ℕ} → s .answer ≡ Refused n → t .stops ≡ true → t .outcome ≡ refusedAt n (verdictIn m) (m .taken) at → TurnsLent heads fragments names ranges holders m o at t
+  -- the words are as they were before a refused record
+  pub turn-refused : {n : ℕ} → s ≡ Refused n → t .stops ≡ true → t .outcome ≡ refusedAt n (verdictIn (heldBy after)) (heldBy after .taken) at → TurnsLent heads fragments names ranges holders before o at t after
   turn-refused {n} e st says b lent S k f oracle right =
       turns b lent S k f oracle right (Refused n) e st
-      (λ h. says ∙ ap₂ (λ (v : Verdict) (c : ℕ). refusedAt n v c at) (follows-verdict S k b m f) (follows-taken S k b m f))
+      (λ h. says ∙ ap (λ (m : List ℕ). refusedAt n (verdictIn (heldBy m)) (heldBy m .taken) at) (observes b lent .unchanged n (ap said e))
+      ∙ ap₂ (λ (v : Verdict) (c : ℕ). refusedAt n v c at) (follows-verdict S k b before f) (follows-taken S k b before f))

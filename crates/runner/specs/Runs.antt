@@ -9,7 +9,7 @@ use Rattle.pattern.specs.Judge as J
 use Rattle.sheet.specs.Layout.{Sheet, WellFormedSheet}
 use Rattle.book.specs.Looks.{Looks}
 use Rattle.book.specs.declared.Book.{Book}
-use Rattle.monitor.specs.declared.Monitor.{Monitor}
+use Rattle.words.specs.Words.{heldBy}
 use Rattle.monitor.specs.declared.Observation.{Observation}
 use Rattle.monitor.specs.Promise.{seen, verdictIn, Lends, Follows}
 use Rattle.runner.specs.Log.{ended, stops, stoppedBy, play, runOf}
@@ -31,16 +31,16 @@ Plays heads fragments names ranges holders log n r =
 -- ---- one record
 
 -- whether the judge's answer stops the run, and with what; the monitor follows what the judge then keeps
-pub record Turns (oracle : Oracle) (S : Sheet) (k : Kept) (b : Book) (o : J.Observation) (at : ℕ) (r : Turned) : Type 0 where
+pub record Turns (oracle : Oracle) (S : Sheet) (k : Kept) (b : Book) (o : J.Observation) (at : ℕ) (r : Turned) (after : List ℕ) : Type 0 where
   pub stops′ : r .stops ≡ stops (judge oracle k o .answer)
   pub says : r .stops ≡ true → r .outcome ≡ stoppedBy (judge oracle k o .answer) k (judge oracle k o .kept) at
-  pub follows : Follows S (judge oracle k o .kept) b (r .monitor)
+  pub follows : Follows S (judge oracle k o .kept) b after
 
-abbrev pub TurnsLent : List ℕ → List ℕ → List ℕ → List ℕ → List ℕ → Monitor → Observation → ℕ → Turned → Type 0
-TurnsLent heads fragments names ranges holders m o at r =
-    (b : Book) → Lends heads fragments names ranges holders b → (S : Sheet) (k : Kept) → Follows S k b m
-    → (oracle : Oracle) → Right (S .rules) oracle → Turns oracle S k b (seen o) at r
+abbrev pub TurnsLent : List ℕ → List ℕ → List ℕ → List ℕ → List ℕ → List ℕ → Observation → ℕ → Turned → List ℕ → Type 0
+TurnsLent heads fragments names ranges holders before o at r after =
+    (b : Book) → Lends heads fragments names ranges holders b → (S : Sheet) (k : Kept) → Follows S k b before
+    → (oracle : Oracle) → Right (S .rules) oracle → Turns oracle S k b (seen o) at r after
 
 -- what a monitor says, once nothing more is looked at
-abbrev pub endedIn : Monitor → Outcome
-endedIn m = ended (verdictIn m) (m .taken)
+abbrev pub endedIn : List ℕ → Outcome
+endedIn m = ended (verdictIn (heldBy m)) (heldBy m .taken)

@@ -1,16 +1,16 @@
 // A run over a log (document 01, "Running a log"): records are observed one after the other, from a fresh monitor, until a refusal, a break, the budget or the log's end.
-// The monitor goes from record to record by value, and the book's arrays are lent by reference.
+// The monitor's words are the run's own and are changed in place; the book's arrays are lent by reference.
 ghost use mathlib.Core.Path.{_≡_};
 ghost use mathlib.Core.Bool.{true, false};
 ghost use Prim.Native.Nat.{_+_, _*_, _<_, _≤_, min};
 ghost use lib.ListN.{length};
 ghost use Rattle.pattern.specs.Judge.{allWhole, someOpen, brokenAt};
+ghost use Rattle.words.specs.Words.{heldBy};
 ghost use Rattle.monitor.specs.Promise.{seen, verdictIn};
 ghost use Rattle.sheet.specs.Form.{number};
 ghost use Rattle.runner.specs.Log.{observation, recordFrom, ended, openMask, refusedAt, turnedAway};
 ghost use Rattle.runner.specs.Runs.{Runs, Plays, TurnsLent, endedIn};
 use monitor::Answer;
-use monitor::Monitor;
 use monitor::Observation;
 
 // ---- records
@@ -102,20 +102,21 @@ fn broken(k: u32, mask: u16, taken: u32) -> Outcome
 }
 
 // What a monitor says once nothing more is looked at: its verdict, which is no refusal.
-fn ended(m: Monitor) -> Outcome
-    ensures { λ r. ⌜ r ≡ endedIn m ⌝ }
+fn ended(m: &[u64; 34]) -> Outcome
+    ensures { λ r. ⌜ r ≡ endedIn (now (m .entry)) ⌝ }
 {
+    let taken = monitor::count(m);
     let v = monitor::verdict(m);
     match v {
-        Answer::Open(mask) => still_open(mask, m.taken),
-        Answer::Broken(k, mask) => broken(k, mask, m.taken),
-        _ => whole(m.taken),
+        Answer::Open(mask) => still_open(mask, taken),
+        Answer::Broken(k, mask) => broken(k, mask, taken),
+        _ => whole(taken),
     }
 }
 
 // The mask of the open rules: 0 where the verdict is another.
-fn open_mask(m: Monitor) -> u16
-    ensures { λ r. ⌜ r ≡ openMask (verdictIn m) ⌝ }
+fn open_mask(m: &[u64; 34]) -> u16
+    ensures { λ r. ⌜ r ≡ openMask (verdictIn (heldBy (now (m .entry)))) ⌝ }
 {
     let v = monitor::verdict(m);
     match v {
@@ -125,15 +126,16 @@ fn open_mask(m: Monitor) -> u16
 }
 
 // A refused record: "after a record's refusal it is the open mask just before"; the place is the record's offset.
-fn refused_at(number: u8, m: Monitor, at: u32) -> Outcome
-    ensures { λ r. ⌜ r ≡ refusedAt number (verdictIn m) (m .taken) at ⌝ }
+fn refused_at(number: u8, m: &[u64; 34], at: u32) -> Outcome
+    ensures { λ r. ⌜ r ≡ refusedAt number (verdictIn (heldBy (now (m .entry)))) (heldBy (now (m .entry)) .taken) at ⌝ }
 {
     let mask = open_mask(m);
+    let reached = monitor::count(m);
     Outcome {
         answer: 3,
         refusal: number,
         mask: mask,
-        taken: m.taken,
+        taken: reached,
         place: at,
     }
 }
@@ -153,30 +155,27 @@ fn turned_away() -> Outcome
 
 // ---- one record
 
-// The monitor after a record, and whether the run stops there; if it does, what it says.
+// Whether the run stops at a record; if it does, what it says.
 pub struct Turned {
-    pub monitor: Monitor,
     pub stops: bool,
     pub outcome: Outcome,
 }
 
 // The run goes on: the outcome says nothing.
-fn goes_on(m: Monitor) -> Turned
-    ensures { λ r. ⌜ (r .monitor ≡ m) × (r .stops ≡ false) ⌝ }
+fn goes_on() -> Turned
+    ensures { λ r. ⌜ r .stops ≡ false ⌝ }
 {
     Turned {
-        monitor: m,
         stops: false,
         outcome: whole(0),
     }
 }
 
 // The run stops.
-fn stopped(m: Monitor, outcome: Outcome) -> Turned
-    ensures { λ r. ⌜ (r .monitor ≡ m) × (r .stops ≡ true) × (r .outcome ≡ outcome) ⌝ }
+fn stopped(outcome: Outcome) -> Turned
+    ensures { λ r. ⌜ (r .stops ≡ true) × (r .outcome ≡ outcome) ⌝ }
 {
     Turned {
-        monitor: m,
         stops: true,
         outcome: outcome,
     }
@@ -189,19 +188,17 @@ fn turn<'a>(
     names: &'a [u64; 256],
     ranges: &'a [u64; 2048],
     holders: &'a [u16; 64],
-    m: Monitor,
+    m: &mut [u64; 34],
     o: Observation,
     at: u32,
 ) -> Turned
-    ensures { λ r. ⌜ TurnsLent (now (heads .entry)) (now (fragments .entry)) (now (names .entry)) (now (ranges .entry)) (now (holders .entry)) m o at r ⌝ }
+    ensures { λ r. ⌜ TurnsLent (now (heads .entry)) (now (fragments .entry)) (now (names .entry)) (now (ranges .entry)) (now (holders .entry)) (now (m .entry)) o at r (now (m .exit)) ⌝ }
 {
-    let s = monitor::observe(heads, fragments, names, ranges, holders, m, o);
-    let next = s.monitor;
-    let answer = s.answer;
+    let answer = monitor::observe(heads, fragments, names, ranges, holders, m, o);
     match answer {
-        Answer::Broken(k, mask) => stopped(next, broken(k, mask, next.taken)),
-        Answer::Refused(number) => stopped(next, refused_at(number, m, at)),
-        _ => goes_on(next),
+        Answer::Broken(k, mask) => stopped(broken(k, mask, monitor::count(m))),
+        Answer::Refused(number) => stopped(refused_at(number, m, at)),
+        _ => goes_on(),
     }
 }
 
@@ -225,14 +222,13 @@ fn play<'a>(
     while i < n {
         let at = 5 * i;
         let o = record_from(log, at as usize);
-        let t = turn(heads, fragments, names, ranges, holders, m, o, at);
+        let t = turn(heads, fragments, names, ranges, holders, &mut m, o, at);
         if t.stops {
             return t.outcome;
         }
-        m = t.monitor;
         i = i + 1;
     }
-    ended(m)
+    ended(&m)
 }
 
 // "takes at most a given budget of records": the smaller of the budget and the log's count.

@@ -20,21 +20,21 @@ lends-own : (b : Book) → Lends (b .heads) (b .fragments) (b .names) (b .ranges
 lends-own b = record { heads′ = refl; fragments′ = refl; names′ = refl; ranges′ = refl; holders′ = refl }
 
 -- calls in place are a run of calls by value
-pub session-run : (b : Book) {m last : Monitor} {os : List Observation} {as′ : List Answer} → Session b m os as′ last → Run b m os as′ last
+pub session-run : (b : Book) {m last : Monitor} {os : List Observation} {as′ : List Answer} → Session b m os as′ last → Run b (m .words) os as′ (last .words)
 session-run b none = done
-session-run b (call {next = next} {a = a} c rest) = more {r = record { monitor = next; answer = a }} (c b (lends-own b)) (session-run b rest)
+session-run b (call c rest) = more (c b (lends-own b)) (session-run b rest)
 
 -- for every accepted sheet's bytes, every monitor that `start` has put in place for the book that `open_sheet` made of them, and every list of observations: the calls in place answer what the judge answers
 pub session-agreement : (bytes : List ℕ) → Bytes bytes → (r : Opened) → Opens bytes r → (S : Sheet) → readSheet bytes ≡ accepted S
-    → (m : Monitor) → Freshes (r .book .fragments) m → (os : List Observation) (as′ : List Answer) (last : Monitor) → Session (r .book) m os as′ last → SessionAgreement S os as′ last
+    → (m : Monitor) → Freshes (r .book .fragments) (m .words) → (os : List Observation) (as′ : List Answer) (last : Monitor) → Session (r .book) m os as′ last → SessionAgreement S os as′ last
 session-agreement bytes are r opens S is m freshes os as′ last s = record {
   agrees = along;
   counts = λ oracle right n e. e ∙ along .agrees oracle right .taken;
   says = λ oracle right a e. e ∙ ap J.verdict (along .agrees oracle right .verdict);
 }
   where
-    along : CodeAgreement S os as′ last
-    along = agreement bytes are (record { answer = r .answer; book = r .book }) (opens .translates) S is m freshes os as′ last (session-run (r .book) s)
+    along : CodeAgreement S os as′ (last .words)
+    along = agreement bytes are (record { answer = r .answer; book = r .book }) (opens .translates) S is (m .words) freshes os as′ (last .words) (session-run (r .book) s)
 
 -- the same from the monitor that `open_sheet` returned
 pub opened-agreement : (bytes : List ℕ) → Bytes bytes → (r : Opened) → Opens bytes r → (S : Sheet) → readSheet bytes ≡ accepted S

@@ -9,6 +9,7 @@ use Rattle.pattern.specs.Judge as J
 use Rattle.sheet.specs.Layout.{Sheet}
 use Rattle.book.specs.Books.{Translates}
 use Rattle.book.specs.declared.Book.{Book}
+use Rattle.words.specs.Words.{heldBy}
 use Rattle.monitor.specs.Promise.{said, seen, Says, ObservesLent, Freshes, CodeAgreement}
 use Rattle.monitor.specs.declared.Monitor.{Monitor}
 use Rattle.monitor.specs.declared.Observation.{Observation}
@@ -20,11 +21,11 @@ use Rattle.session.specs.declared.Opened.{Opened}
 -- opening from these bytes: the reader's answer and an accepted sheet's book, as translating promises; and a fresh monitor for that book
 pub record Opens (bytes : List ℕ) (r : Opened) : Type 0 where
   pub translates : Translates bytes (record { answer = r .answer; book = r .book })
-  pub freshes : Freshes (r .book .fragments) (r .monitor)
+  pub freshes : Freshes (r .book .fragments) (r .monitor .words)
 
 -- one observation in place: the monitor before the call, the observation, the monitor that the call leaves and its answer are such as the monitor part promises by value
 abbrev pub ObservesInPlace : List ℕ → List ℕ → List ℕ → List ℕ → List ℕ → Monitor → Observation → Monitor → Answer → Type 0
-ObservesInPlace heads fragments names ranges holders before o after answer = ObservesLent heads fragments names ranges holders before o (record { monitor = after; answer = answer })
+ObservesInPlace heads fragments names ranges holders before o after answer = ObservesLent heads fragments names ranges holders (before .words) o answer (after .words)
 
 -- ---- a session
 
@@ -36,6 +37,6 @@ pub data Session (b : Book) : Monitor → List Observation → List Answer → M
 
 -- demand 3 for a session: its answers, its count and its verdict are the judge's; and so is what the calls `taken` and `verdict` then answer
 pub record SessionAgreement (S : Sheet) (os : List Observation) (as′ : List Answer) (last : Monitor) : Type 0 where
-  pub agrees : CodeAgreement S os as′ last
-  pub counts : (oracle : Oracle) → Right (S .rules) oracle → (n : ℕ) → n ≡ last .taken → n ≡ length (judgeKeeps oracle nothing (map seen os) .taken)
-  pub says : (oracle : Oracle) → Right (S .rules) oracle → (a : Answer) → Says a last → said a ≡ J.verdict (judgeKeeps oracle nothing (map seen os) .verdict)
+  pub agrees : CodeAgreement S os as′ (last .words)
+  pub counts : (oracle : Oracle) → Right (S .rules) oracle → (n : ℕ) → n ≡ heldBy (last .words) .taken → n ≡ length (judgeKeeps oracle nothing (map seen os) .taken)
+  pub says : (oracle : Oracle) → Right (S .rules) oracle → (a : Answer) → Says a (last .words) → said a ≡ J.verdict (judgeKeeps oracle nothing (map seen os) .verdict)

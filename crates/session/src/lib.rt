@@ -1,5 +1,6 @@
 // A host's session (document 01, "Observing"): one monitor, lent to the guard and changed in place. Each call takes the state out, calls the monitor part by value and puts what it returns back; it rests on that part's promises alone.
 ghost use mathlib.Core.Path.{_≡_};
+ghost use Rattle.words.specs.Words.{heldBy};
 ghost use Rattle.monitor.specs.Promise.{Freshes, Says};
 ghost use Rattle.session.specs.Session.{Opens, ObservesInPlace};
 use monitor::Answer;
@@ -20,7 +21,7 @@ pub fn open_sheet(bytes: &[u8]) -> Opened
     let t = book::translate(bytes);
     let answer = t.answer;
     let book = t.book;
-    let monitor = monitor::fresh(&book.fragments);
+    let monitor = monitor::start(&book.fragments);
     Opened {
         answer: answer,
         book: book,
@@ -30,9 +31,9 @@ pub fn open_sheet(bytes: &[u8]) -> Opened
 
 // Puts a fresh monitor for the book whose fragments are lent in the place of whatever stands there.
 pub fn start(m: &mut Monitor, fragments: &[u16; 256])
-    ensures { λ _. ⌜ Freshes (now (fragments .entry)) (now (m .exit)) ⌝ }
+    ensures { λ _. ⌜ Freshes (now (fragments .entry)) (now (m .exit) .words) ⌝ }
 {
-    *m = monitor::fresh(fragments);
+    *m = monitor::start(fragments);
 }
 
 // One observation of the session's monitor under the book whose arrays are lent: the judge's answer, and the monitor is left as one that follows what the judge then keeps. A refused observation leaves it equal.
@@ -49,22 +50,23 @@ pub fn observe<'a>(
     ensures { λ r. ⌜ ObservesInPlace (now (heads .entry)) (now (fragments .entry)) (now (names .entry)) (now (ranges .entry)) (now (holders .entry)) (now (m .entry)) o (now (m .exit)) r ⌝ }
 {
     let s = *m;
-    let r = monitor::observe(heads, fragments, names, ranges, holders, s, o);
+    let r = monitor::step(heads, fragments, names, ranges, holders, s, o);
     *m = r.monitor;
     r.answer
 }
 
 // The verdict that the session's monitor holds. It is read, and not changed.
 pub fn verdict(m: &Monitor) -> Answer
-    ensures { λ r. ⌜ Says r (now (m .entry)) ⌝ }
+    ensures { λ r. ⌜ Says r (now (m .entry) .words) ⌝ }
 {
     let s = *m;
-    monitor::verdict(s)
+    monitor::verdict_of(s)
 }
 
 // The number of observations that the session's monitor has taken. It is read, and not changed.
 pub fn taken(m: &Monitor) -> u32
-    ensures { λ r. ⌜ r ≡ now (m .entry) .taken ⌝ }
+    ensures { λ r. ⌜ r ≡ heldBy (now (m .entry) .words) .taken ⌝ }
 {
-    m.taken
+    let s = *m;
+    monitor::taken_by(s)
 }

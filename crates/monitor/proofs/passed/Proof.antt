@@ -1,12 +1,15 @@
--- `monitor::passed` meets its contract. The loop's invariant is `Passing`: the rules seen have their new states, and the masks speak of those. Each turn takes the lowest rule out
--- of `todo`, which so becomes a smaller number: the measure. When it is 0, all that are looked at have been seen. Assumes nothing.
-use mathlib.Core.Path.{refl}
+-- `monitor::passed` meets its contract. The loop's invariant is `Passing`: the rules seen have their new states, and the masks speak of those. Each turn takes the lowest rule out of `todo`, which so
+-- becomes a smaller number: the measure. When it is 0, all that are looked at have been seen. Assumes nothing.
+use mathlib.Core.Path.{_≡_, refl}
 use mathlib.Core.List.{List}
 use Prim.Native.Nat.{ℕ}
 use native.Mathlib.Omega.{arith}
 use denote.Ref.{now}
+use lib.ListN.{length}
 use Rattle.step.specs.Steps.{Tables}
-use Rattle.monitor.proofs.Passing.{Passing, passing-start, passing-more, passing-end}
+use Rattle.words.specs.Words.{rulesIn}
+use Rattle.words.proofs.Laws.{sixteen}
+use Rattle.monitor.proofs.Passing.{Passing, passing-start, passing-next, passing-end}
 use borrow.Author.Needs.{needs}
 use Rattle.monitor.proofs.passed.Statement.{statement}
 use Rattle.monitor.proofs.passed.Tie as tie
@@ -15,11 +18,12 @@ abbrev tables : (heads fragments names ranges : List ℕ) → Tables
 tables heads fragments names ranges = record { heads = heads; fragments = fragments; names = names; ranges = ranges }
 
 abbrev Inv-loop : tie.InvT-loop
-Inv-loop heads fragments names ranges concerned opens dues name time old touched rules₀ br₀ op₀ du₀ todo₀ rules br op du todo =
-    Passing (tables heads fragments names ranges) concerned opens dues old name time rules br op du todo
+Inv-loop heads fragments names ranges m₀ concerned opens dues name time touched br₀ op₀ du₀ todo₀ m br op du todo =
+    length m₀ ≡ 34 → (length m ≡ 34) × Passing (tables heads fragments names ranges) concerned opens dues (rulesIn m₀) name time (rulesIn m) br op du todo
 
 abbrev μ-loop : tie.MeasureT-loop
-μ-loop heads fragments names ranges concerned opens dues name time old touched rules₀ br₀ op₀ du₀ todo₀ rules br op du todo = todo
+μ-loop heads fragments names ranges m₀ concerned opens dues name time touched br₀ op₀ du₀ todo₀ m br op du todo =
+    todo
 
 union-requires : tie.Need-union-requires Inv-loop μ-loop
 union-requires c κs = search needs
@@ -29,9 +33,12 @@ without-requires c κs = search needs
 
 loop-holds : tie.Need-loop-holds Inv-loop μ-loop
 loop-holds c =
-    let a = c .before .before .args in
-    passing-start (tables (now (a .heads)) (now (a .fragments)) (now (a .names)) (now (a .ranges))) (a .concerned) (a .opens) (a .dues) (a .t8) (a .name) (a .time)
-    (search needs) (c .before .union .ensures) (c .without .ensures) (c .without .ok)
+    λ l.
+    let a = c .before .before .args in (
+      l,
+      passing-start (tables (now (a .heads)) (now (a .fragments)) (now (a .names)) (now (a .ranges))) (a .concerned) (a .opens) (a .dues) (rulesIn (now (a .m))) (a .name) (a .time)
+          (sixteen (now (a .m))) (c .before .union .ensures) (c .without .ensures) (c .without .ok),
+    )
 
 lowest-requires : tie.Need-lowest-requires Inv-loop μ-loop
 lowest-requires c κs = search needs
@@ -39,20 +46,9 @@ lowest-requires c κs = search needs
 less-requires : tie.Need-less-requires Inv-loop μ-loop
 less-requires c κs = search needs
 
-mul-was : tie.Need-mul-was Inv-loop μ-loop
-mul-was c = search needs
-
-array-copy-out-was : tie.Need-array-copy-out-was Inv-loop μ-loop
-array-copy-out-was c = c .before .lowest .ensures .rule
-
 rule-requires : tie.Need-rule-requires Inv-loop μ-loop
-rule-requires c κs = c .before .before .lowest .ensures .rule
-
-mul-rules : tie.Need-mul-rules Inv-loop μ-loop
-mul-rules c = search needs
-
-array-set-from-rules : tie.Need-array-set-from-rules Inv-loop μ-loop
-array-set-from-rules c = c .before .before .before .before .lowest .ensures .rule
+rule-requires c κs =
+    c .before .before .lowest .ensures .rule
 
 with-requires : tie.Need-with-requires Inv-loop μ-loop
 with-requires c κs = search needs
@@ -68,27 +64,34 @@ with-requires-3 c κs = search needs
 
 loop-less : tie.Need-loop-less Inv-loop μ-loop
 loop-less c =
-    let taking = c .before .before .before .before .before .before .before in
-    taking .less .ensures .fewer (taking .before .lowest .ensures .inside (taking .before .before .loop-test .taken))
+    let less = c .before .before .before .before .before .before in
+    less .less .ensures .fewer (less .before .lowest .ensures .inside (less .before .before .loop-test .taken))
 
 loop-again : tie.Need-loop-again Inv-loop μ-loop
 loop-again c =
-    let taking = c .before .before .before .before .before .before .before in
-    let low = taking .before .lowest .ensures in
-    let l = taking .before .before .before in
-    let a = l .before .before .before .args in
-    passing-more (tables (now (a .heads)) (now (a .fragments)) (now (a .names)) (now (a .ranges))) (a .concerned) (a .opens) (a .dues) (a .t8) (a .name) (a .time)
-    _ (l .loop .inv) (low .inside (taking .before .before .loop-test .taken)) (low .rule) (taking .less .ensures)
-    (c .before .before .before .before .before .rule .ensures)
-    refl (c .before .before .before .with .ensures) (c .before .before .before .with .ok)
-    (c .before .before .is-open .ensures) (c .before .with2 .ensures) (c .before .with2 .ok)
-    refl (c .with3 .ensures) (c .with3 .ok)
+    λ l.
+    let less = c .before .before .before .before .before .before in
+    let low = less .before .lowest .ensures in
+    let turn = less .before .before .before .loop in
+    let a = less .before .before .before .before .before .before .args in
+    let (lm, p) = turn .inv l in
+    let st = c .before .before .before .before .rule .ensures in (
+      st .long lm,
+      passing-next (tables (now (a .heads)) (now (a .fragments)) (now (a .names)) (now (a .ranges))) (a .concerned) (a .opens) (a .dues) (rulesIn (now (a .m))) (a .name) (a .time)
+          p (low .inside (less .before .before .loop-test .taken)) (low .rule) (less .less .ensures) st lm
+          refl (c .before .before .before .with .ensures) (c .before .before .before .with .ok) (c .before .before .is-open .ensures) (c .before .with2 .ensures) (c .before .with2 .ok) refl (c .with3 .ensures) (c .with3 .ok),
+    )
 
 returns : tie.Need-returns Inv-loop μ-loop
 returns c =
     let a = c .before .before .before .before .args in
-    passing-end (tables (now (a .heads)) (now (a .fragments)) (now (a .names)) (now (a .ranges))) (a .concerned) (a .opens) (a .dues) (a .t8) (a .name) (a .time)
-    (c .before .loop .inv) (omega (arith, c .loop-test .left))
+    let turn = c .before .loop in
+    record {
+      long = λ l. turn .inv l .0;
+      passes = λ l.
+          passing-end (tables (now (a .heads)) (now (a .fragments)) (now (a .names)) (now (a .ranges))) (a .concerned) (a .opens) (a .dues) (rulesIn (now (a .m))) (a .name) (a .time)
+          (turn .inv l .1) (omega (arith, c .loop-test .left));
+    }
 
 pub passed-spec : {M : Type 1} → statement M
 passed-spec =
@@ -101,11 +104,7 @@ passed-spec =
     loop-holds
     lowest-requires
     less-requires
-    mul-was
-    array-copy-out-was
     rule-requires
-    mul-rules
-    array-set-from-rules
     with-requires
     is-open-requires
     with-requires-2

@@ -1,9 +1,13 @@
 -- `runner::ended` meets its contract, by the cases of the verdict. Assumes nothing.
 use mathlib.Core.Path.{_∙_}
+use denote.Ref.{now}
 use Rattle.runner.proofs.Saying.{says-ended, says-whole}
 use borrow.Author.Needs.{needs}
 use Rattle.runner.proofs.ended.Statement.{statement}
 use Rattle.runner.proofs.ended.Tie as tie
+
+count-requires : tie.Need-count-requires
+count-requires c κs = search needs
 
 verdict-requires : tie.Need-verdict-requires
 verdict-requires c κs = search needs
@@ -24,18 +28,22 @@ whole-requires : tie.Need-whole-requires
 whole-requires c κs = search needs
 
 returns : tie.Need-returns
-returns c = c .still-open .ensures ∙ says-ended (c .before .before .before .before .before .args .m) (c .before .before .before .before .verdict .ensures) (c .before .before .v .given .1)
+returns c =
+    c .still-open .ensures ∙ rw (c .before .before .before .before .before .count .ensures) (says-ended (now (c .before .before .before .before .before .before .args .m)) (c .before .before .before .before .verdict .ensures) (c .before .before .v .given .1))
 
 returns-2 : tie.Need-returns-2
-returns-2 c = c .broken .ensures ∙ says-ended (c .before .before .before .before .before .args .m) (c .before .before .before .before .verdict .ensures) (c .before .before .v2 .given .1)
+returns-2 c =
+    c .broken .ensures ∙ rw (c .before .before .before .before .before .count .ensures) (says-ended (now (c .before .before .before .before .before .before .args .m)) (c .before .before .before .before .verdict .ensures) (c .before .before .v2 .given .1))
 
 returns-3 : tie.Need-returns-3
-returns-3 c = c .whole .ensures ∙ says-whole (c .before .before .before .args .m) (c .before .before .verdict .result) (c .before .before .verdict .ensures) (c .before .match .keys3)
+returns-3 c =
+    c .whole .ensures ∙ rw (c .before .before .before .count .ensures) (says-whole (now (c .before .before .before .before .args .m)) (c .before .before .verdict .result) (c .before .before .verdict .ensures) (c .before .match .keys3))
 
 pub ended-spec : {M : Type 1} → statement M
 ended-spec =
     tie.close
     (tie.spec
+    count-requires
     verdict-requires
     enum-known-v
     still-open-requires

@@ -1,4 +1,5 @@
 -- `runner::open_mask` meets its contract, by the cases of the verdict. Assumes nothing.
+use denote.Ref.{now}
 use Rattle.runner.proofs.Saying.{says-open, says-none}
 use borrow.Author.Needs.{needs}
 use Rattle.runner.proofs.open_mask.Statement.{statement}
@@ -11,10 +12,12 @@ enum-known-v : tie.Need-enum-known-v
 enum-known-v c = search needs
 
 returns : tie.Need-returns
-returns c = says-open (c .before .before .before .before .args .m) (c .before .before .before .verdict .ensures) (c .before .v .given .1)
+returns c =
+    says-open (now (c .before .before .before .before .args .m)) (c .before .before .before .verdict .ensures) (c .before .v .given .1)
 
 returns-2 : tie.Need-returns-2
-returns-2 c = says-none (c .before .before .args .m) (c .before .verdict .result) (c .before .verdict .ensures) (c .match .keys2)
+returns-2 c =
+    says-none (now (c .before .before .args .m)) (c .before .verdict .result) (c .before .verdict .ensures) (c .match .keys2)
 
 pub open-mask-spec : {M : Type 1} → statement M
 open-mask-spec = tie.close (tie.spec verdict-requires enum-known-v returns returns-2)

@@ -11,6 +11,9 @@ observe-requires c κs = search needs
 enum-known-answer : tie.Need-enum-known-answer
 enum-known-answer c = search needs
 
+count-requires : tie.Need-count-requires
+count-requires c κs = search needs
+
 broken-requires : tie.Need-broken-requires
 broken-requires c κs = search needs
 
@@ -30,13 +33,17 @@ goes-on-requires : tie.Need-goes-on-requires
 goes-on-requires c κs = search needs
 
 returns : tie.Need-returns
-returns c = turn-broken (c .before .before .before .before .before .before .observe .ensures) (c .before .before .before .before .before .before .before .args .at) (c .stopped .result) (c .stopped .ensures .0) (c .before .before .before .answer .given .1) (c .stopped .ensures .1) (c .stopped .ensures .2 ∙ c .before .broken .ensures)
+returns c =
+    turn-broken (c .before .before .before .before .before .before .before .observe .ensures) (c .before .before .before .before .before .before .before .before .before .args .at) (c .stopped .result) (c .before .before .before .before .before .answer .given .1) (c .stopped .ensures .0)
+    (c .stopped .ensures .1 ∙ c .before .broken .ensures ∙ rw (c .before .before .count .ensures))
 
 returns-2 : tie.Need-returns-2
-returns-2 c = turn-refused (c .before .before .before .before .before .before .observe .ensures) (c .before .before .before .before .before .before .before .args .at) (c .stopped2 .result) (c .stopped2 .ensures .0) (c .before .before .before .answer2 .given .1) (c .stopped2 .ensures .1) (c .stopped2 .ensures .2 ∙ c .before .refused-at .ensures)
+returns-2 c =
+    turn-refused (c .before .before .before .before .before .before .observe .ensures) (c .before .before .before .before .before .before .before .before .args .at) (c .stopped2 .result) (c .before .before .before .before .answer2 .given .1) (c .stopped2 .ensures .0) (c .stopped2 .ensures .1 ∙ c .before .refused-at .ensures)
 
 returns-3 : tie.Need-returns-3
-returns-3 c = turn-goes (c .before .before .before .observe .ensures) (c .before .before .before .before .args .at) (c .goes-on .result) (c .goes-on .ensures .0) (c .before .match .keys3) (c .goes-on .ensures .1)
+returns-3 c =
+    turn-goes (c .before .before .observe .ensures) (c .before .before .before .before .args .at) (c .goes-on .result) (c .before .match .keys3) (c .goes-on .ensures)
 
 pub turn-spec : {M : Type 1} → statement M
 turn-spec =
@@ -44,6 +51,7 @@ turn-spec =
     (tie.spec
     observe-requires
     enum-known-answer
+    count-requires
     broken-requires
     stopped-requires
     enum-known-answer-2

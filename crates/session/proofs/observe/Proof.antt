@@ -1,5 +1,5 @@
--- `session::observe` meets its contract: a walk of its MIR. What each `&` owns is had twice. The borrow is opened, the whole monitor is copied into a local, `monitor::observe` is called on the copy, and the monitor that it returned is stored whole through the reference; the borrow is closed at that monitor.
--- All that the proof knows of `monitor::observe` is that it meets its contract. No field of `Monitor` and no case of `Answer` or `Observation` is named: the laws that the check makes of each type say all that is needed.
+-- `session::observe` meets its contract: a walk of its MIR. What each `&` owns is had twice. The borrow is opened, the whole monitor is copied into a local, `monitor::step` is called on the copy, and the monitor that it returned is stored whole through the reference; the borrow is closed at that monitor.
+-- All that the proof knows of `monitor::step` is that it meets its contract. No field of `Monitor` and no case of `Answer` or `Observation` is named: the laws that the check makes of each type say all that is needed.
 -- Assumes nothing.
 use mathlib.Core.Path.{refl, ap}
 use Prim.Native.Nat.{ℕ}
@@ -45,19 +45,19 @@ use Rattle.monitor.specs.Promise.{ObservesLent}
 use Rattle.monitor.specs.declared.Monitor.{Monitor}
 use Rattle.monitor.specs.declared.Answer.{Answer}
 use Rattle.monitor.specs.declared.Observation.{Observation}
-use Rattle.monitor.specs.declared.Observed.{Observed}
+use Rattle.monitor.specs.declared.Answered.{Answered}
 use Rattle.monitor.proofs.Monitor as T
 use Rattle.monitor.proofs.Monitor.Laws as T′
 use Rattle.monitor.proofs.Answer as N
 use Rattle.monitor.proofs.Answer.Laws as N′
 use Rattle.monitor.proofs.Observation as O
 use Rattle.monitor.proofs.Observation.Laws as O′
-use Rattle.monitor.proofs.Observed as S
-use Rattle.monitor.proofs.Observed.Laws as S′
-use Rattle.monitor.proofs.observe as step
-use Rattle.monitor.proofs.observe.Symbol as step-def
-use Rattle.monitor.proofs.observe.Symbol.{name as #monitor·observe}
-use Rattle.monitor.proofs.observe.Met as step-thm
+use Rattle.monitor.proofs.Answered as S
+use Rattle.monitor.proofs.Answered.Laws as S′
+use Rattle.monitor.proofs.step as step
+use Rattle.monitor.proofs.step.Symbol as step-def
+use Rattle.monitor.proofs.step.Symbol.{name as #monitor·step}
+use Rattle.monitor.proofs.step.Met as step-thm
 use Rattle.session.proofs.observe.Key.{name as #session·observe}
 use Rattle.session.proofs.observe as f
 use Rattle.session.proofs.observe.Statement as stated
@@ -99,10 +99,10 @@ abbrev vals-o : Observation → List Val
 vals-o = EL.vals O.the-type O′.the-laws
 
 -- what whoever holds the pair knows of each half
-mon-is : (r : Observed) {vs : List Val} → Is S.the-row r vs → Is T.the-row (r .monitor) (vals (r .monitor))
+mon-is : (r : Answered) {vs : List Val} → Is S.the-row r vs → Is T.the-row (r .monitor) (vals (r .monitor))
 mon-is r {vs} is = LL.owed S.the-type S′.the-laws r vs is .0
 
-ans-is : (r : Observed) {vs : List Val} → Is S.the-row r vs → Is N.the-row (r .answer) (val-n (r .answer) ∷ [])
+ans-is : (r : Answered) {vs : List Val} → Is S.the-row r vs → Is N.the-row (r .answer) (val-n (r .answer) ∷ [])
 ans-is r {vs} is = LL.owed S.the-type S′.the-laws r vs is .1 .0
 
 -- the contract that the proof cites
@@ -135,15 +135,15 @@ module _ {M : Type 1} (𝓤 : URA M) (H : Heap 𝓤) (A : Atoms 𝓤) (W : Given
       (shr-copy 𝓤 H A W (named 1) κ₁ (Words 16), (shr-copy 𝓤 H A W (named 1) κ₁ (Halves 256), (shr-copy 𝓤 H A W (named 1) κ₁ (Words 256), (shr-copy 𝓤 H A W (named 1) κ₁ (Words 2048), (shr-copy 𝓤 H A W (named 1) κ₁ (Halves 64), (EL.copy O.the-type O′.the-copy 𝓤 H A W, tt))))))
       (x .1) (at .1)
 
-  -- what `monitor::observe` is passed, and what it promises
+  -- what `monitor::step` is passed, and what it promises
   abbrev arg : Table × (Table × (Table × (Table × (Table × (Monitor × (Observation × Unit {0}))))))
   arg = (y₁, (y₂, (y₃, (y₄, (y₅, (h, (s, tt)))))))
 
   abbrev to-step : Step 𝓤 H A at-mem run .Ghost
   to-step = (((κ₁, tt), (q₁, tt), tt, arg, (ptr-vals y₁, (ptr-vals y₂, (ptr-vals y₃, (ptr-vals y₄, (ptr-vals y₅, (vals h, (vals-o s, tt)))))))), tt)
 
-  abbrev Promised : Observed → Type 0
-  Promised r = ObservesLent (y₁ .now) (y₂ .now) (y₃ .now) (y₄ .now) (y₅ .now) h s r
+  abbrev Promised : Answered → Type 0
+  Promised r = ObservesLent (y₁ .now) (y₂ .now) (y₃ .now) (y₄ .now) (y₅ .now) (h .words) s (r .answer) (r .monitor .words)
 
   goes : Is T.the-row h (vals h) → ent 𝓤 (⋆ 𝓤 H A ((‵ (flft κ₁ q₁) ⊛ ‵ ftrue) ∷ ‵ Lent ∷ [])) (Step 𝓤 H A at-mem run .pre to-step)
   goes is =
@@ -152,10 +152,10 @@ module _ {M : Type 1} (𝓤 : URA M) (H : Heap 𝓤) (A : Atoms 𝓤) (W : Given
       move ! (1 ∷ 0 ∷ []) $ fjoin ! $ move ! (1 ∷ 0 ∷ []) $ fjoin ! $ move ! (1 ∷ 0 ∷ []) $ fjoin ! $ move ! (1 ∷ 0 ∷ []) $ fjoin ! $ move ! (1 ∷ 0 ∷ []) $ fjoin ! $ move ! (1 ∷ 0 ∷ []) $ join ! $ frame ! $ done !
 
   -- of the callee's `ensured`, the clause alone: it has no `&mut`
-  said : (r : Observed) → ent 𝓤 (ensured 𝓤 H A step.ended (step.clauses 𝓤 H A at-mem run) (κ₁, tt) arg tt r) (fact 𝓤 (Promised r))
+  said : (r : Answered) → ent 𝓤 (ensured 𝓤 H A step.ended (step.clauses 𝓤 H A at-mem run) (κ₁, tt) arg tt r) (fact 𝓤 (Promised r))
   said r = exE 𝓤 _ (λ ws. snd∗ 𝓤 (sem 𝓤 H A (lasts step.ended (κ₁, tt) arg ws)) (fact 𝓤 (Promised r)))
 
-  exits : (r : Observed) → Promised r → Is N.the-row (r .answer) (val-n (r .answer) ∷ [])
+  exits : (r : Answered) → Promised r → Is N.the-row (r .answer) (val-n (r .answer) ∷ [])
       → ent 𝓤 (⋆ 𝓤 H A (‵ (fobs γ (T.the-row .coded .code (r .monitor))) ∷ ‵ (fbor κ (Body (mem T.the-row) b o γ)) ∷ ‵ (flft κ q) ∷ (‵ (flft κ₁ q₁) ⊛ ‵ ftrue) ∷ ‵ Lent ∷ [])) (Post (val-n (r .answer)))
   exits r e is =
       qed W (‵ (fobs γ (T.the-row .coded .code (r .monitor))) ∷ ‵ (fbor κ (Body (mem T.the-row) b o γ)) ∷ ‵ (flft κ q) ∷ (‵ (flft κ₁ q₁) ⊛ ‵ ftrue) ∷ ‵ Lent ∷ []) ∵
@@ -163,7 +163,7 @@ module _ {M : Type 1} (𝓤 : URA M) (H : Heap 𝓤) (A : Atoms 𝓤) (W : Given
       says ! e $ move ! (2 ∷ 3 ∷ []) $ join ! $ frame ! $ feqI ! (List Val) (vptr b o ∷ []) (vptr b o ∷ []) refl $ fjoin3 ! $ fjoin ! $ frame ! $
       owned ! N.the-row (Is N.the-row) (EL.makes N.the-type N′.the-plain 𝓤 H A) (r .answer) _ is $ done !
 
-  module _ (C : Calls 𝓤 H) (Λ : Loops 𝓤 H) (fm : FmC 𝓤 H (W .laws) C) (known : Triple 𝓤 (C #monitor·observe) (Step 𝓤 H A at-mem run)) where
+  module _ (C : Calls 𝓤 H) (Λ : Loops 𝓤 H) (fm : FmC 𝓤 H (W .laws) C) (known : Triple 𝓤 (C #monitor·step) (Step 𝓤 H A at-mem run)) where
     walk : ent 𝓤 (onEntry 𝓤 H A f.signature (κ, (κ₁, tt)) (q, (q₁, tt)) x at) (WpFn 𝓤 H C Λ code.function in-all Post)
     walk =
         qed W ((‵ (flft κ q) ⊛ ‵ (flft κ₁ q₁) ⊛ ‵ ftrue) ∷ ‵ (owns (MutRef (named 0) κ T.the-row ∷ Rest) x at) ∷ []) ∵
@@ -183,7 +183,7 @@ module _ {M : Type 1} (𝓤 : URA M) (H : Heap 𝓤) (A : Atoms 𝓤) (W : Given
         -- the call
         move ! (25 ∷ 26 ∷ []) $ use2 W (raw (Step 𝓤 H A at-mem run .pre to-step)) (goes is) $
         calls-at ! fm (Step 𝓤 H A at-mem run) known to-step (and-then ! (load ! (from ! (stop !)) (look ! 20 refl)) (and-then ! (load ! (from ! (stop !)) (look ! 18 refl)) (and-then ! (load ! (from ! (stop !)) (look ! 16 refl)) (and-then ! (load ! (from ! (stop !)) (look ! 14 refl)) (and-then ! (load ! (from ! (stop !)) (look ! 12 refl)) (and-then ! (load ! (from ! (stop !)) (look ! 8 refl)) (and-then ! (load ! (from ! (stop !)) (look ! 10 refl)) (no-more !)))))))) (λ v.
-        use1 W (later (some (λ (r : Observed). ((‵ (flft κ₁ q₁) ⊛ ‵ ftrue) ⊛ ‵ (S.the-row .own r (v ∷ []))) ⊛ raw (ensured 𝓤 H A step.ended (step.clauses 𝓤 H A at-mem run) (κ₁, tt) arg tt r)))) (id⊢ 𝓤 _) $ await ! tt $ pick ! (λ r.
+        use1 W (later (some (λ (r : Answered). ((‵ (flft κ₁ q₁) ⊛ ‵ ftrue) ⊛ ‵ (S.the-row .own r (v ∷ []))) ⊛ raw (ensured 𝓤 H A step.ended (step.clauses 𝓤 H A at-mem run) (κ₁, tt) arg tt r)))) (id⊢ 𝓤 _) $ await ! tt $ pick ! (λ r.
         split ! $ move ! (1 ∷ []) $ use1 W (raw (fact 𝓤 (Promised r))) (said r) $ heard ! (Promised r) (λ e. split ! $ move ! (1 ∷ []) $
         peeks ! S.the-row (Is S.the-row) (shows 𝓤 H A S.the-row) r (v ∷ []) (λ is′.
         land ! (from ! (stop !)) (init ! 7 refl (LL.lawful S.the-type S′.the-laws 𝓤 H A W .typed r _ is′ .0)) $
@@ -199,7 +199,7 @@ module _ {M : Type 1} (𝓤 : URA M) (H : Heap 𝓤) (A : Atoms 𝓤) (W : Given
         by ! (exits r e (ans-is r is′))))))))))))))))))
 
 module _ {M : Type 1} (𝓤 : URA M) (H : Heap 𝓤) (A : Atoms 𝓤) (W : Given 𝓤 H A) (at-mem : Memory → SProp 𝓤) (run : Routine → Fun 𝓤) where
-  observe-walks : (C : Calls 𝓤 H) (Λ : Loops 𝓤 H) → FmC 𝓤 H (W .laws) C → Triple 𝓤 (C #monitor·observe) (Step 𝓤 H A at-mem run) → Walks 𝓤 H A f.ended stayed (WpFn 𝓤 H C Λ code.function) (f.clauses 𝓤 H A at-mem run)
+  observe-walks : (C : Calls 𝓤 H) (Λ : Loops 𝓤 H) → FmC 𝓤 H (W .laws) C → Triple 𝓤 (C #monitor·step) (Step 𝓤 H A at-mem run) → Walks 𝓤 H A f.ended stayed (WpFn 𝓤 H C Λ code.function) (f.clauses 𝓤 H A at-mem run)
   observe-walks C Λ fm known = walked 𝓤 H A f.ended stayed (f.clauses 𝓤 H A at-mem run) (WpFn 𝓤 H C Λ code.function) (λ κs. (ptr-vals, (ptr-vals, (ptr-vals, (ptr-vals, (ptr-vals, (ptr-vals, (vals-o, tt))))))))
       (λ κs. (mut-tells (named 0) (κs .0) T.the-row, (shr-tells (named 1) (κs .1 .0) (Words 16), (shr-tells (named 1) (κs .1 .0) (Halves 256), (shr-tells (named 1) (κs .1 .0) (Words 256), (shr-tells (named 1) (κs .1 .0) (Words 2048), (shr-tells (named 1) (κs .1 .0) (Halves 64), (EL.tells O.the-type O′.the-laws, tt))))))))
       (λ κs qs bounds a _ are. via 𝓤 _ (fst∗ 𝓤 _ (emp 𝓤)) (walk 𝓤 H A W at-mem run (κs .0) (κs .1 .0) (qs .0) (qs .1 .0) (a .0 .ptr .0) (a .0 .ptr .1) (a .0 .name) (a .0 .now) (a .1 .0) (a .1 .1 .0) (a .1 .1 .1 .0) (a .1 .1 .1 .1 .0) (a .1 .1 .1 .1 .1 .0) (a .1 .1 .1 .1 .1 .1 .0) (are .1 .1 .1 .1 .1 .1 .0) C Λ fm known))
@@ -207,7 +207,7 @@ module _ {M : Type 1} (𝓤 : URA M) (H : Heap 𝓤) (A : Atoms 𝓤) (W : Given
   goes-all : AllGo 𝓤 H A W 2 (f.signature .params) (f.ended .kept) stayed
   goes-all = (goes-ref 𝓤 H A W 2 0 tt (plain (λ _. T.the-row)), (goes-none-ref 𝓤 H A W 2 (1 ∷ []) tt (WordsS 16) yes, (goes-none-ref 𝓤 H A W 2 (1 ∷ []) tt (HalvesS 256) yes, (goes-none-ref 𝓤 H A W 2 (1 ∷ []) tt (WordsS 256) yes, (goes-none-ref 𝓤 H A W 2 (1 ∷ []) tt (WordsS 2048) yes, (goes-none-ref 𝓤 H A W 2 (1 ∷ []) tt (HalvesS 64) yes, (goes-none 𝓤 H A W 2 (λ _. O.the-row) yes (λ κs x f. refl), tt)))))))
 
-observe-meets : {M : Type 1} (𝓤 : URA M) (H : Heap 𝓤) (A : Atoms 𝓤) → Given 𝓤 H A → (at-mem : Memory → SProp 𝓤) (run : Routine → Fun 𝓤) (𝓣 : Tables 𝓤 H) → Triple 𝓤 (𝓣 .C #monitor·observe) (Step 𝓤 H A at-mem run)
+observe-meets : {M : Type 1} (𝓤 : URA M) (H : Heap 𝓤) (A : Atoms 𝓤) → Given 𝓤 H A → (at-mem : Memory → SProp 𝓤) (run : Routine → Fun 𝓤) (𝓣 : Tables 𝓤 H) → Triple 𝓤 (𝓣 .C #monitor·step) (Step 𝓤 H A at-mem run)
     → Meets 𝓤 H A f.signature (WpFn 𝓤 H (𝓣 .C) (𝓣 .Λ) code.function) (f.spec 𝓤 H A at-mem run)
 observe-meets 𝓤 H A W at-mem run 𝓣 known = walk-meets 𝓤 H A f.ended stayed W (goes-all 𝓤 H A W at-mem run) (f.clauses 𝓤 H A at-mem run) (WpFn 𝓤 H (𝓣 .C) (𝓣 .Λ) code.function) (WpFn-mono 𝓤 H (W .laws) 𝓣 code.function) (observe-walks 𝓤 H A W at-mem run (𝓣 .C) (𝓣 .Λ) (fmOf 𝓤 H (W .laws) 𝓣) known)
 
@@ -217,4 +217,4 @@ observe-spec 𝓤 H 𝓜 𝓖 𝓡 =
     entered 𝓤 H (tripleOf 𝓤 H (𝓖 .A) f.signature (f.spec 𝓤 H (𝓖 .A) (𝓜 .mem) (𝓡 .run)))
     (tables 𝓤 H 𝓜 𝓡 code.env .C) (tables 𝓤 H 𝓜 𝓡 code.env .Λ) #session·observe code.function (code.unfolded 𝓤 H 𝓜 𝓡)
     (observe-meets 𝓤 H (𝓖 .A) (givenOf 𝓤 H 𝓜 𝓖) (𝓜 .mem) (𝓡 .run) (tablesOf 𝓤 H 𝓜 (tables 𝓤 H 𝓜 𝓡 code.env))
-    (cited 𝓤 H (Step 𝓤 H (𝓖 .A) (𝓜 .mem) (𝓡 .run)) 𝓜 𝓡 code.env #monitor·observe step-def.routine code.calls-monitor·observe (step-thm.met 𝓤 H 𝓜 𝓖 𝓡)))
+    (cited 𝓤 H (Step 𝓤 H (𝓖 .A) (𝓜 .mem) (𝓡 .run)) 𝓜 𝓡 code.env #monitor·step step-def.routine code.calls-monitor·step (step-thm.met 𝓤 H 𝓜 𝓖 𝓡)))

@@ -1,5 +1,5 @@
--- `session::start` meets its contract: a walk of its MIR. What the `&` owns is had twice. `monitor::fresh` is called, and the monitor that it returned is stored whole through the reference.
--- All that the proof knows of `monitor::fresh` is that it meets its contract. No field of `Monitor` is named.
+-- `session::start` meets its contract: a walk of its MIR. What the `&` owns is had twice. `monitor::start` is called, and the monitor that it returned is stored whole through the reference.
+-- All that the proof knows of `monitor::start` is that it meets its contract. No field of `Monitor` is named.
 -- Assumes nothing.
 use mathlib.Core.Path.{refl, ap}
 use Prim.Native.Nat.{ℕ}
@@ -43,10 +43,10 @@ use Rattle.monitor.specs.Promise.{Freshes}
 use Rattle.monitor.specs.declared.Monitor.{Monitor}
 use Rattle.monitor.proofs.Monitor as T
 use Rattle.monitor.proofs.Monitor.Laws as T′
-use Rattle.monitor.proofs.fresh as fresh
-use Rattle.monitor.proofs.fresh.Symbol as fresh-def
-use Rattle.monitor.proofs.fresh.Symbol.{name as #monitor·fresh}
-use Rattle.monitor.proofs.fresh.Met as fresh-thm
+use Rattle.monitor.proofs.start as fresh
+use Rattle.monitor.proofs.start.Symbol as fresh-def
+use Rattle.monitor.proofs.start.Symbol.{name as #monitor·start}
+use Rattle.monitor.proofs.start.Met as fresh-thm
 use Rattle.session.proofs.start.Key.{name as #session·start}
 use Rattle.session.proofs.start as f
 use Rattle.session.proofs.start.Statement as stated
@@ -92,12 +92,12 @@ module _ {M : Type 1} (𝓤 : URA M) (H : Heap 𝓤) (A : Atoms 𝓤) (W : Given
   lent-twice : ent 𝓤 (sem 𝓤 H A Lent) (sep 𝓤 (sem 𝓤 H A Lent) (sem 𝓤 H A Lent))
   lent-twice = twices 𝓤 H A W Rest (shr-copy 𝓤 H A W (named 1) κ₁ Halves, tt) (x .1) (at .1)
 
-  -- what `monitor::fresh` is passed, and what it promises
+  -- what `monitor::start` is passed, and what it promises
   abbrev to-fresh : Fresh 𝓤 H A at-mem run .Ghost
   to-fresh = (((κ₁, tt), (q₁, tt), tt, x .1, at .1), tt)
 
   abbrev Promised : Monitor → Type 0
-  Promised r = Freshes (y .now) r
+  Promised r = Freshes (y .now) (r .words)
 
   goes : ent 𝓤 (⋆ 𝓤 H A ((‵ (flft κ₁ q₁) ⊛ ‵ ftrue) ∷ ‵ Lent ∷ [])) (Fresh 𝓤 H A at-mem run .pre to-fresh)
   goes = qed W ((‵ (flft κ₁ q₁) ⊛ ‵ ftrue) ∷ ‵ Lent ∷ []) ∵ join ! $ frame ! $ done !
@@ -113,7 +113,7 @@ module _ {M : Type 1} (𝓤 : URA M) (H : Heap 𝓤) (A : Atoms 𝓤) (W : Given
       suffices ! _ (ends-at 𝓤 H A f.ended stayed (f.clauses 𝓤 H A at-mem run) W (((κ, (κ₁, tt)), (q, (q₁, tt)), tt, x, at), tt) vunit tt (r, (tt, tt)) (tt, (tt, tt))) $
       says ! e $ move ! (2 ∷ 3 ∷ []) $ join ! $ frame ! $ feqI ! (List Val) (vptr b o ∷ []) (vptr b o ∷ []) refl $ fjoin3 ! $ fjoin ! $ frame ! $ feqI ! (List Val) (vunit ∷ []) (vunit ∷ []) refl $ done !
 
-  module _ (C : Calls 𝓤 H) (Λ : Loops 𝓤 H) (fm : FmC 𝓤 H (W .laws) C) (known : Triple 𝓤 (C #monitor·fresh) (Fresh 𝓤 H A at-mem run)) where
+  module _ (C : Calls 𝓤 H) (Λ : Loops 𝓤 H) (fm : FmC 𝓤 H (W .laws) C) (known : Triple 𝓤 (C #monitor·start) (Fresh 𝓤 H A at-mem run)) where
     walk : ent 𝓤 (onEntry 𝓤 H A f.signature (κ, (κ₁, tt)) (q, (q₁, tt)) x at) (WpFn 𝓤 H C Λ code.function in-all Post)
     walk =
         qed W ((‵ (flft κ q) ⊛ ‵ (flft κ₁ q₁) ⊛ ‵ ftrue) ∷ ‵ (owns (MutRef (named 0) κ T.the-row ∷ Rest) x at) ∷ []) ∵
@@ -143,14 +143,14 @@ module _ {M : Type 1} (𝓤 : URA M) (H : Heap 𝓤) (A : Atoms 𝓤) (W : Given
         by ! (exits r e)))))))))))
 
 module _ {M : Type 1} (𝓤 : URA M) (H : Heap 𝓤) (A : Atoms 𝓤) (W : Given 𝓤 H A) (at-mem : Memory → SProp 𝓤) (run : Routine → Fun 𝓤) where
-  start-walks : (C : Calls 𝓤 H) (Λ : Loops 𝓤 H) → FmC 𝓤 H (W .laws) C → Triple 𝓤 (C #monitor·fresh) (Fresh 𝓤 H A at-mem run) → Walks 𝓤 H A f.ended stayed (WpFn 𝓤 H C Λ code.function) (f.clauses 𝓤 H A at-mem run)
+  start-walks : (C : Calls 𝓤 H) (Λ : Loops 𝓤 H) → FmC 𝓤 H (W .laws) C → Triple 𝓤 (C #monitor·start) (Fresh 𝓤 H A at-mem run) → Walks 𝓤 H A f.ended stayed (WpFn 𝓤 H C Λ code.function) (f.clauses 𝓤 H A at-mem run)
   start-walks C Λ fm known = walked 𝓤 H A f.ended stayed (f.clauses 𝓤 H A at-mem run) (WpFn 𝓤 H C Λ code.function) (λ κs. (ptr-vals, (ptr-vals, tt))) (λ κs. (mut-tells (named 0) (κs .0) T.the-row, (shr-tells (named 1) (κs .1 .0) Halves, tt)))
       (λ κs qs bounds a _ are. via 𝓤 _ (fst∗ 𝓤 _ (emp 𝓤)) (walk 𝓤 H A W at-mem run (κs .0) (κs .1 .0) (qs .0) (qs .1 .0) (a .0 .ptr .0) (a .0 .ptr .1) (a .0 .name) (a .0 .now) (a .1 .0) C Λ fm known))
 
   goes-all : AllGo 𝓤 H A W 2 (f.signature .params) (f.ended .kept) stayed
   goes-all = (goes-ref 𝓤 H A W 2 0 tt (plain (λ _. T.the-row)), (goes-none-ref 𝓤 H A W 2 (1 ∷ []) tt HalvesS yes, tt))
 
-start-meets : {M : Type 1} (𝓤 : URA M) (H : Heap 𝓤) (A : Atoms 𝓤) → Given 𝓤 H A → (at-mem : Memory → SProp 𝓤) (run : Routine → Fun 𝓤) (𝓣 : Tables 𝓤 H) → Triple 𝓤 (𝓣 .C #monitor·fresh) (Fresh 𝓤 H A at-mem run)
+start-meets : {M : Type 1} (𝓤 : URA M) (H : Heap 𝓤) (A : Atoms 𝓤) → Given 𝓤 H A → (at-mem : Memory → SProp 𝓤) (run : Routine → Fun 𝓤) (𝓣 : Tables 𝓤 H) → Triple 𝓤 (𝓣 .C #monitor·start) (Fresh 𝓤 H A at-mem run)
     → Meets 𝓤 H A f.signature (WpFn 𝓤 H (𝓣 .C) (𝓣 .Λ) code.function) (f.spec 𝓤 H A at-mem run)
 start-meets 𝓤 H A W at-mem run 𝓣 known = walk-meets 𝓤 H A f.ended stayed W (goes-all 𝓤 H A W at-mem run) (f.clauses 𝓤 H A at-mem run) (WpFn 𝓤 H (𝓣 .C) (𝓣 .Λ) code.function) (WpFn-mono 𝓤 H (W .laws) 𝓣 code.function) (start-walks 𝓤 H A W at-mem run (𝓣 .C) (𝓣 .Λ) (fmOf 𝓤 H (W .laws) 𝓣) known)
 
@@ -160,4 +160,4 @@ start-spec 𝓤 H 𝓜 𝓖 𝓡 =
     entered 𝓤 H (tripleOf 𝓤 H (𝓖 .A) f.signature (f.spec 𝓤 H (𝓖 .A) (𝓜 .mem) (𝓡 .run)))
     (tables 𝓤 H 𝓜 𝓡 code.env .C) (tables 𝓤 H 𝓜 𝓡 code.env .Λ) #session·start code.function (code.unfolded 𝓤 H 𝓜 𝓡)
     (start-meets 𝓤 H (𝓖 .A) (givenOf 𝓤 H 𝓜 𝓖) (𝓜 .mem) (𝓡 .run) (tablesOf 𝓤 H 𝓜 (tables 𝓤 H 𝓜 𝓡 code.env))
-    (cited 𝓤 H (Fresh 𝓤 H (𝓖 .A) (𝓜 .mem) (𝓡 .run)) 𝓜 𝓡 code.env #monitor·fresh fresh-def.routine code.calls-monitor·fresh (fresh-thm.met 𝓤 H 𝓜 𝓖 𝓡)))
+    (cited 𝓤 H (Fresh 𝓤 H (𝓖 .A) (𝓜 .mem) (𝓡 .run)) 𝓜 𝓡 code.env #monitor·start fresh-def.routine code.calls-monitor·start (fresh-thm.met 𝓤 H 𝓜 𝓖 𝓡)))

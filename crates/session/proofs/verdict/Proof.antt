@@ -1,5 +1,5 @@
--- `session::verdict` meets its contract: a walk of its MIR. The borrow is looked into, the whole monitor is copied into a local, the borrow is shut again, and `monitor::verdict` is called on the copy.
--- All that the proof knows of `monitor::verdict` is that it meets its contract. No field of `Monitor` and no case of `Answer` is named.
+-- `session::verdict` meets its contract: a walk of its MIR. The borrow is looked into, the whole monitor is copied into a local, the borrow is shut again, and `monitor::verdict_of` is called on the copy.
+-- All that the proof knows of `monitor::verdict_of` is that it meets its contract. No field of `Monitor` and no case of `Answer` is named.
 -- Assumes nothing.
 use mathlib.Core.Path.{refl}
 use Prim.Native.Nat.{ℕ}
@@ -42,10 +42,10 @@ use Rattle.monitor.proofs.Monitor as T
 use Rattle.monitor.proofs.Monitor.Laws as T′
 use Rattle.monitor.proofs.Answer as N
 use Rattle.monitor.proofs.Answer.Laws as N′
-use Rattle.monitor.proofs.verdict as held
-use Rattle.monitor.proofs.verdict.Symbol as held-def
-use Rattle.monitor.proofs.verdict.Symbol.{name as #monitor·verdict}
-use Rattle.monitor.proofs.verdict.Met as held-thm
+use Rattle.monitor.proofs.verdict_of as held
+use Rattle.monitor.proofs.verdict_of.Symbol as held-def
+use Rattle.monitor.proofs.verdict_of.Symbol.{name as #monitor·verdict-of}
+use Rattle.monitor.proofs.verdict_of.Met as held-thm
 use Rattle.session.proofs.verdict.Key.{name as #session·verdict}
 use Rattle.session.proofs.verdict as f
 use Rattle.session.proofs.verdict.Statement as stated
@@ -71,7 +71,7 @@ module _ {M : Type 1} (𝓤 : URA M) (H : Heap 𝓤) (A : Atoms 𝓤) (W : Given
   abbrev Post : Val → SProp 𝓤
   Post = walkOf 𝓤 H A f.ended stayed (f.clauses 𝓤 H A at-mem run) .post (((κ, tt), (q, tt), tt, x, at), tt)
 
-  -- what `monitor::verdict` is passed
+  -- what `monitor::verdict_of` is passed
   abbrev to-held : Held 𝓤 H A at-mem run .Ghost
   to-held = ((tt, tt, tt, (h, tt), (vals h, tt)), tt)
 
@@ -79,16 +79,16 @@ module _ {M : Type 1} (𝓤 : URA M) (H : Heap 𝓤) (A : Atoms 𝓤) (W : Given
   goes is = qed W [] ∵ nothing ! $ owned ! T.the-row (Is T.the-row) (LL.makes T.the-type T′.the-plain 𝓤 H A) h _ is $ fjoin ! $ nothing ! $ join ! $ frame ! $ done !
 
   -- of the callee's `ensured`, the clause alone: it has no `&mut`
-  said : (r : Answer) → ent 𝓤 (ensured 𝓤 H A held.ended (held.clauses 𝓤 H A at-mem run) tt (h, tt) tt r) (fact 𝓤 (Says r h))
-  said r = exE 𝓤 _ (λ ws. snd∗ 𝓤 (sem 𝓤 H A (lasts held.ended tt (h, tt) ws)) (fact 𝓤 (Says r h)))
+  said : (r : Answer) → ent 𝓤 (ensured 𝓤 H A held.ended (held.clauses 𝓤 H A at-mem run) tt (h, tt) tt r) (fact 𝓤 (Says r (h .words)))
+  said r = exE 𝓤 _ (λ ws. snd∗ 𝓤 (sem 𝓤 H A (lasts held.ended tt (h, tt) ws)) (fact 𝓤 (Says r (h .words))))
 
-  exits : (r : Answer) (u : Val) → Says r h → ent 𝓤 (⋆ 𝓤 H A (‵ (N.the-row .own r (u ∷ [])) ∷ ‵ (flft κ q) ∷ ‵ (fshr-bor κ (λ s. partAt T.the-row s h b o)) ∷ ‵ (fres γ (T.the-row .coded .code h)) ∷ [])) (Post u)
+  exits : (r : Answer) (u : Val) → Says r (h .words) → ent 𝓤 (⋆ 𝓤 H A (‵ (N.the-row .own r (u ∷ [])) ∷ ‵ (flft κ q) ∷ ‵ (fshr-bor κ (λ s. partAt T.the-row s h b o)) ∷ ‵ (fres γ (T.the-row .coded .code h)) ∷ [])) (Post u)
   exits r u e =
       qed W (‵ (N.the-row .own r (u ∷ [])) ∷ ‵ (flft κ q) ∷ ‵ (fshr-bor κ (λ s. partAt T.the-row s h b o)) ∷ ‵ (fres γ (T.the-row .coded .code h)) ∷ []) ∵
       suffices ! _ (ends-at 𝓤 H A f.ended stayed (f.clauses 𝓤 H A at-mem run) W (((κ, tt), (q, tt), tt, x, at), tt) u r (tt, tt) (tt, tt)) $ says ! e $
       nothing ! $ move ! (2 ∷ 0 ∷ []) $ join ! $ frame ! $ feqI ! (List Val) (vptr b o ∷ []) (vptr b o ∷ []) refl $ move ! (0 ∷ 3 ∷ 2 ∷ []) $ fjoin3 ! $ nothing ! $ move ! (1 ∷ 0 ∷ []) $ fjoin ! $ frame ! $ done !
 
-  module _ (C : Calls 𝓤 H) (Λ : Loops 𝓤 H) (fm : FmC 𝓤 H (W .laws) C) (known : Triple 𝓤 (C #monitor·verdict) (Held 𝓤 H A at-mem run)) where
+  module _ (C : Calls 𝓤 H) (Λ : Loops 𝓤 H) (fm : FmC 𝓤 H (W .laws) C) (known : Triple 𝓤 (C #monitor·verdict-of) (Held 𝓤 H A at-mem run)) where
     walk : ent 𝓤 (onEntry 𝓤 H A f.signature (κ, tt) (q, tt) x at) (WpFn 𝓤 H C Λ code.function (vptr b o ∷ []) Post)
     walk =
         qed W ((‵ (flft κ q) ⊛ ‵ ftrue) ∷ ‵ (owns (ShrRef (named 0) κ T.the-row ∷ []) x at) ∷ []) ∵
@@ -105,7 +105,7 @@ module _ {M : Type 1} (𝓤 : URA M) (H : Heap 𝓤) (A : Atoms 𝓤) (W : Given
         use0 W (raw (Held 𝓤 H A at-mem run .pre to-held)) (goes is) $
         calls-at ! fm (Held 𝓤 H A at-mem run) known to-held (and-then ! (load ! (from ! (stop !)) (look ! 3 refl)) (no-more !)) (λ v.
         use1 W (later (some (λ (r : Answer). (‵ ftrue ⊛ ‵ (N.the-row .own r (v ∷ []))) ⊛ raw (ensured 𝓤 H A held.ended (held.clauses 𝓤 H A at-mem run) tt (h, tt) tt r)))) (id⊢ 𝓤 _) $ await ! tt $ pick ! (λ r.
-        split ! $ move ! (1 ∷ []) $ use1 W (raw (fact 𝓤 (Says r h))) (said r) $ heard ! (Says r h) (λ e. split ! $ drop ! $
+        split ! $ move ! (1 ∷ []) $ use1 W (raw (fact 𝓤 (Says r (h .words)))) (said r) $ heard ! (Says r (h .words)) (λ e. split ! $ drop ! $
         -- [the answer; the token; the fractured borrow; _2; …; _1; …; room for _0; …; res; true; true]
         peeks ! N.the-row (Is N.the-row) (shows 𝓤 H A N.the-row) r (v ∷ []) (λ is′.
         land ! (from ! (stop !)) (init ! 7 refl (EL.lawful N.the-type N′.the-laws 𝓤 H A W tt .typed r _ is′ .0)) $
@@ -113,14 +113,14 @@ module _ {M : Type 1} (𝓤 : URA M) (H : Heap 𝓤) (A : Atoms 𝓤) (W : Given
         keep ! (0 ∷ 1 ∷ 2 ∷ 3 ∷ []) $ by ! (exits r v e))))))))))
 
 module _ {M : Type 1} (𝓤 : URA M) (H : Heap 𝓤) (A : Atoms 𝓤) (W : Given 𝓤 H A) (at-mem : Memory → SProp 𝓤) (run : Routine → Fun 𝓤) where
-  verdict-walks : (C : Calls 𝓤 H) (Λ : Loops 𝓤 H) → FmC 𝓤 H (W .laws) C → Triple 𝓤 (C #monitor·verdict) (Held 𝓤 H A at-mem run) → Walks 𝓤 H A f.ended stayed (WpFn 𝓤 H C Λ code.function) (f.clauses 𝓤 H A at-mem run)
+  verdict-walks : (C : Calls 𝓤 H) (Λ : Loops 𝓤 H) → FmC 𝓤 H (W .laws) C → Triple 𝓤 (C #monitor·verdict-of) (Held 𝓤 H A at-mem run) → Walks 𝓤 H A f.ended stayed (WpFn 𝓤 H C Λ code.function) (f.clauses 𝓤 H A at-mem run)
   verdict-walks C Λ fm known = walked 𝓤 H A f.ended stayed (f.clauses 𝓤 H A at-mem run) (WpFn 𝓤 H C Λ code.function) (λ κs. (ptr-vals, tt)) (λ κs. (shr-tells (named 0) (κs .0) T.the-row, tt))
       (λ κs qs bounds a _ _. via 𝓤 _ (fst∗ 𝓤 _ (emp 𝓤)) (walk 𝓤 H A W at-mem run (κs .0) (qs .0) (a .0 .ptr .0) (a .0 .ptr .1) (a .0 .name) (a .0 .now) C Λ fm known))
 
   goes-all : AllGo 𝓤 H A W 1 (f.signature .params) (f.ended .kept) stayed
   goes-all = (goes-none-ref 𝓤 H A W 1 (0 ∷ []) tt (plain (λ _. T.the-row)) yes, tt)
 
-verdict-meets : {M : Type 1} (𝓤 : URA M) (H : Heap 𝓤) (A : Atoms 𝓤) → Given 𝓤 H A → (at-mem : Memory → SProp 𝓤) (run : Routine → Fun 𝓤) (𝓣 : Tables 𝓤 H) → Triple 𝓤 (𝓣 .C #monitor·verdict) (Held 𝓤 H A at-mem run)
+verdict-meets : {M : Type 1} (𝓤 : URA M) (H : Heap 𝓤) (A : Atoms 𝓤) → Given 𝓤 H A → (at-mem : Memory → SProp 𝓤) (run : Routine → Fun 𝓤) (𝓣 : Tables 𝓤 H) → Triple 𝓤 (𝓣 .C #monitor·verdict-of) (Held 𝓤 H A at-mem run)
     → Meets 𝓤 H A f.signature (WpFn 𝓤 H (𝓣 .C) (𝓣 .Λ) code.function) (f.spec 𝓤 H A at-mem run)
 verdict-meets 𝓤 H A W at-mem run 𝓣 known = walk-meets 𝓤 H A f.ended stayed W (goes-all 𝓤 H A W at-mem run) (f.clauses 𝓤 H A at-mem run) (WpFn 𝓤 H (𝓣 .C) (𝓣 .Λ) code.function) (WpFn-mono 𝓤 H (W .laws) 𝓣 code.function) (verdict-walks 𝓤 H A W at-mem run (𝓣 .C) (𝓣 .Λ) (fmOf 𝓤 H (W .laws) 𝓣) known)
 
@@ -130,4 +130,4 @@ verdict-spec 𝓤 H 𝓜 𝓖 𝓡 =
     entered 𝓤 H (tripleOf 𝓤 H (𝓖 .A) f.signature (f.spec 𝓤 H (𝓖 .A) (𝓜 .mem) (𝓡 .run)))
     (tables 𝓤 H 𝓜 𝓡 code.env .C) (tables 𝓤 H 𝓜 𝓡 code.env .Λ) #session·verdict code.function (code.unfolded 𝓤 H 𝓜 𝓡)
     (verdict-meets 𝓤 H (𝓖 .A) (givenOf 𝓤 H 𝓜 𝓖) (𝓜 .mem) (𝓡 .run) (tablesOf 𝓤 H 𝓜 (tables 𝓤 H 𝓜 𝓡 code.env))
-    (cited 𝓤 H (Held 𝓤 H (𝓖 .A) (𝓜 .mem) (𝓡 .run)) 𝓜 𝓡 code.env #monitor·verdict held-def.routine code.calls-monitor·verdict (held-thm.met 𝓤 H 𝓜 𝓖 𝓡)))
+    (cited 𝓤 H (Held 𝓤 H (𝓖 .A) (𝓜 .mem) (𝓡 .run)) 𝓜 𝓡 code.env #monitor·verdict-of held-def.routine code.calls-monitor·verdict-of (held-thm.met 𝓤 H 𝓜 𝓖 𝓡)))

@@ -3,18 +3,28 @@
 use mathlib.Core.Path.{_≡_, refl, sym, ap, ap₂, _∙_}
 use mathlib.Core.List.{List, [], _∷_}
 use Prim.Native.Nat.{ℕ, zero, suc, _+_, _<_, _≤_}
-use native.Mathlib.Nat.{add-zero, zero-add}
+use native.Mathlib.Nat.{add-zero, zero-add, not-suc-le-zero}
 use native.Mathlib.Omega.{arith}
 use lib.ListN.{length, getD, set}
 use Rattle.step.specs.Upto.{mapN}
 
 module _ {A : Type 0} where
-  -- two changes that do the same from place k on
+  -- two changes that do the same at the n places from k on
+  pub mapN-within : (f g : ℕ → A → A) (k n : ℕ) (l : List A) → ((i : ℕ) (x : A) → k ≤ i → i < k + n → f i x ≡ g i x) → mapN f k n l ≡ mapN g k n l
+  mapN-within f g k zero l e = refl
+  mapN-within f g k (suc n) [] e = refl
+  mapN-within f g k (suc n) (x ∷ l) e =
+      ap₂ (λ (y : A) (t : List A). y ∷ t) (e k x (omega arith) (omega arith)) (mapN-within f g (suc k) n l (λ i y h g. e i y (omega arith) (omega arith)))
+
+  -- the same at every place from k on
   pub mapN-alike : (f g : ℕ → A → A) (k n : ℕ) (l : List A) → ((i : ℕ) (x : A) → k ≤ i → f i x ≡ g i x) → mapN f k n l ≡ mapN g k n l
-  mapN-alike f g k zero l e = refl
-  mapN-alike f g k (suc n) [] e = refl
-  mapN-alike f g k (suc n) (x ∷ l) e =
-      ap₂ (λ (y : A) (t : List A). y ∷ t) (e k x (omega arith)) (mapN-alike f g (suc k) n l (λ i y h. e i y (omega arith)))
+  mapN-alike f g k n l e = mapN-within f g k n l (λ i x h m. e i x h)
+
+  pub getD-mapN : (f : ℕ → A → A) (d : A) (k n : ℕ) (l : List A) (i : ℕ) → i < n → n ≤ length l → getD (mapN f k n l) i d ≡ f (k + i) (getD l i d)
+  getD-mapN f d k zero l i h w = absurd (not-suc-le-zero h)
+  getD-mapN f d k (suc n) [] i h w = absurd (not-suc-le-zero w)
+  getD-mapN f d k (suc n) (x ∷ l) zero h w = ap (λ (j : ℕ). f j x) (omega arith)
+  getD-mapN f d k (suc n) (x ∷ l) (suc i) h w = getD-mapN f d (suc k) n l i (omega arith) (omega arith) ∙ ap (λ (j : ℕ). f j (getD l i d)) (omega arith)
 
   -- a change that does nothing
   pub mapN-same : (f : ℕ → A → A) (k n : ℕ) (l : List A) → ((i : ℕ) (x : A) → f i x ≡ x) → mapN f k n l ≡ l

@@ -1,0 +1,137 @@
+-- What storing in a monitor's words does to the monitor that they hold: a rule's two words change that rule's state, and the last two words change none.
+-- Assumes nothing.
+use mathlib.Core.Path.{_≡_, refl, sym, ap, ap₂, _∙_}
+use mathlib.Core.List.{List, [], _∷_}
+use Prim.Native.Nat.{ℕ, _+_, _*_, _%_, _/_, _<_, _≤_}
+use native.Mathlib.Omega.{arith}
+use lib.ListN.{length, getD, set, replicate, length-set}
+use lib.Seq.{getD-set-same, getD-set-other}
+use Rattle.step.specs.declared.RuleState.{RuleState}
+use Rattle.step.specs.Upto.{mapN, length-mapN}
+use Rattle.words.specs.Words.{statesIn, stateIn, stateAt, noState, ruleFrom, rulesIn, heldBy, Stores, Holds}
+use Rattle.words.proofs.Places.{mapN-within, set-mapN, getD-mapN}
+
+-- ---- eight digits
+
+eight : (x : List ℕ) → length x ≡ 8 → (getD x 0 0 ∷ getD x 1 0 ∷ getD x 2 0 ∷ getD x 3 0 ∷ getD x 4 0 ∷ getD x 5 0 ∷ getD x 6 0 ∷ getD x 7 0 ∷ []) ≡ x
+eight (a ∷ b ∷ c ∷ d ∷ e ∷ f ∷ g ∷ h ∷ []) p = refl
+eight [] p = absurd (omega (arith, p))
+eight (a ∷ []) p = absurd (omega (arith, p))
+eight (a ∷ b ∷ []) p = absurd (omega (arith, p))
+eight (a ∷ b ∷ c ∷ []) p = absurd (omega (arith, p))
+eight (a ∷ b ∷ c ∷ d ∷ []) p = absurd (omega (arith, p))
+eight (a ∷ b ∷ c ∷ d ∷ e ∷ []) p = absurd (omega (arith, p))
+eight (a ∷ b ∷ c ∷ d ∷ e ∷ f ∷ []) p = absurd (omega (arith, p))
+eight (a ∷ b ∷ c ∷ d ∷ e ∷ f ∷ g ∷ []) p = absurd (omega (arith, p))
+eight (a ∷ b ∷ c ∷ d ∷ e ∷ f ∷ g ∷ h ∷ i ∷ x) p = absurd (omega (arith, p))
+
+-- one digit of a number, between a part below it and a part above
+digit-0 : (d above w : ℕ) → d < 256 → w ≡ d + 256 * above → w % 256 ≡ d
+digit-0 d above w h e = omega arith
+
+digit-1 : (below d above w : ℕ) → below < 256 → d < 256 → w ≡ below + 256 * (d + 256 * above) → w / 256 % 256 ≡ d
+digit-1 below d above w l h e = omega arith
+
+digit-2 : (below d above w : ℕ) → below < 65536 → d < 256 → w ≡ below + 65536 * (d + 256 * above) → w / 65536 % 256 ≡ d
+digit-2 below d above w l h e = omega arith
+
+digit-3 : (below d above w : ℕ) → below < 16777216 → d < 256 → w ≡ below + 16777216 * (d + 256 * above) → w / 16777216 % 256 ≡ d
+digit-3 below d above w l h e = omega arith
+
+digit-4 : (below d above w : ℕ) → below < 4294967296 → d < 256 → w ≡ below + 4294967296 * (d + 256 * above) → w / 4294967296 % 256 ≡ d
+digit-4 below d above w l h e = omega arith
+
+digit-5 : (below d above w : ℕ) → below < 1099511627776 → d < 256 → w ≡ below + 1099511627776 * (d + 256 * above) → w / 1099511627776 % 256 ≡ d
+digit-5 below d above w l h e = omega arith
+
+digit-6 : (below d above w : ℕ) → below < 281474976710656 → d < 256 → w ≡ below + 281474976710656 * (d + 256 * above) → w / 281474976710656 % 256 ≡ d
+digit-6 below d above w l h e = omega arith
+
+digit-7 : (below d above w : ℕ) → below < 72057594037927936 → d < 256 → w ≡ below + 72057594037927936 * (d + 256 * above) → w / 72057594037927936 % 256 ≡ d
+digit-7 below d above w l h e = omega arith
+
+digits : (a b c d e f g h : ℕ) → a < 256 → b < 256 → c < 256 → d < 256 → e < 256 → f < 256 → g < 256 → h < 256 → (w : ℕ)
+    → w ≡ (a + 256 * b + 65536 * c + 16777216 * d) + 4294967296 * (e + 256 * f + 65536 * g + 16777216 * h)
+    → statesIn w ≡ (a ∷ b ∷ c ∷ d ∷ e ∷ f ∷ g ∷ h ∷ [])
+digits a b c d e f g h ha hb hc hd he hf hg hh w p =
+    let e0 = digit-0 a (b + 256 * c + 65536 * d + 16777216 * e + 4294967296 * f + 1099511627776 * g + 281474976710656 * h) w ha (omega arith) in
+    let e1 = digit-1 (a) b (c + 256 * d + 65536 * e + 16777216 * f + 4294967296 * g + 1099511627776 * h) w (omega arith) hb (omega arith) in
+    let e2 = digit-2 (a + 256 * b) c (d + 256 * e + 65536 * f + 16777216 * g + 4294967296 * h) w (omega arith) hc (omega arith) in
+    let e3 = digit-3 (a + 256 * b + 65536 * c) d (e + 256 * f + 65536 * g + 16777216 * h) w (omega arith) hd (omega arith) in
+    let e4 = digit-4 (a + 256 * b + 65536 * c + 16777216 * d) e (f + 256 * g + 65536 * h) w (omega arith) he (omega arith) in
+    let e5 = digit-5 (a + 256 * b + 65536 * c + 16777216 * d + 4294967296 * e) f (g + 256 * h) w (omega arith) hf (omega arith) in
+    let e6 = digit-6 (a + 256 * b + 65536 * c + 16777216 * d + 4294967296 * e + 1099511627776 * f) g (h) w (omega arith) hg (omega arith) in
+    let e7 = digit-7 (a + 256 * b + 65536 * c + 16777216 * d + 4294967296 * e + 1099511627776 * f + 281474976710656 * g) h (0) w (omega arith) hh (omega arith) in
+    λ i. e0 i ∷ e1 i ∷ e2 i ∷ e3 i ∷ e4 i ∷ e5 i ∷ e6 i ∷ e7 i ∷ []
+
+pub states-back : (x : List ℕ) → length x ≡ 8
+    → getD x 0 0 < 256 → getD x 1 0 < 256 → getD x 2 0 < 256 → getD x 3 0 < 256 → getD x 4 0 < 256 → getD x 5 0 < 256 → getD x 6 0 < 256 → getD x 7 0 < 256 → (w : ℕ)
+    → w ≡ (getD x 0 0 + 256 * getD x 1 0 + 65536 * getD x 2 0 + 16777216 * getD x 3 0) + 4294967296 * (getD x 4 0 + 256 * getD x 5 0 + 65536 * getD x 6 0 + 16777216 * getD x 7 0)
+    → statesIn w ≡ x
+states-back x l h0 h1 h2 h3 h4 h5 h6 h7 w p = digits _ _ _ _ _ _ _ _ h0 h1 h2 h3 h4 h5 h6 h7 w p ∙ eight x l
+
+-- ---- the rules
+
+pub sixteen : (m : List ℕ) → length (rulesIn m) ≡ 16
+unfolding rulesIn
+sixteen m = length-mapN (ruleFrom m) 0 16 (replicate 16 noState)
+
+pub rule-at : (m : List ℕ) (r : ℕ) → r < 16 → getD (rulesIn m) r noState ≡ stateAt m r
+unfolding rulesIn
+rule-at m r h = getD-mapN (ruleFrom m) noState 0 16 (replicate 16 noState) r h (omega arith) ∙ ap (stateAt m) (omega arith)
+
+-- words that agree on all rules but one
+set-rule : (m after : List ℕ) (r : ℕ) → r < 16 → ((j : ℕ) → (j ≡ r → ⊥) → stateAt m j ≡ stateAt after j) → set (rulesIn m) r (stateAt after r) ≡ rulesIn after
+unfolding rulesIn
+set-rule m after r h e = set-mapN (ruleFrom m) (ruleFrom after) 16 r (replicate 16 noState) noState h (omega arith) (λ j x n. e j n)
+
+-- words past the rules'
+pub same-rules : (m : List ℕ) (k w : ℕ) → 32 ≤ k → rulesIn (set m k w) ≡ rulesIn m
+unfolding rulesIn
+same-rules m k w h =
+    mapN-within (ruleFrom (set m k w)) (ruleFrom m) 0 16 (replicate 16 noState)
+    (λ j x l g. ap₂ stateIn (getD-set-other m k (2 * j) w 0 (λ p. omega arith)) (getD-set-other m k (2 * j + 1) w 0 (λ p. omega arith)))
+
+-- a rule's two words
+pub stores : (m : List ℕ) (r a b : ℕ) (st : RuleState) → length m ≡ 34 → r < 16 → stateIn a b ≡ st → Stores m r st (set (set m (2 * r) a) (2 * r + 1) b)
+stores m r a b st l h e = record {
+  long = length-set (set m (2 * r) a) (2 * r + 1) b ∙ length-set m (2 * r) a ∙ l;
+  rules = sym (set-rule m after r h others) ∙ ap (set (rulesIn m) r) (this ∙ e);
+  rest = λ i g. getD-set-other (set m (2 * r) a) (2 * r + 1) i b 0 (λ p. omega arith) ∙ getD-set-other m (2 * r) i a 0 (λ p. omega arith);
+}
+  where
+    after : List ℕ
+    after = set (set m (2 * r) a) (2 * r + 1) b
+
+    this : stateAt after r ≡ stateIn a b
+    this = ap₂ stateIn
+        (getD-set-other (set m (2 * r) a) (2 * r + 1) (2 * r) b 0 (λ p. omega arith) ∙ getD-set-same m (2 * r) a 0 (omega (arith, l)))
+        (getD-set-same (set m (2 * r) a) (2 * r + 1) b 0 (omega (arith, l, length-set m (2 * r) a)))
+
+    others : (j : ℕ) → (j ≡ r → ⊥) → stateAt m j ≡ stateAt after j
+    others j n = sym (ap₂ stateIn
+        (getD-set-other (set m (2 * r) a) (2 * r + 1) (2 * j) b 0 (λ p. omega arith) ∙ getD-set-other m (2 * r) (2 * j) a 0 (λ p. n (omega arith)))
+        (getD-set-other (set m (2 * r) a) (2 * r + 1) (2 * j + 1) b 0 (λ p. n (omega arith)) ∙ getD-set-other m (2 * r) (2 * j + 1) a 0 (λ p. omega arith)))
+
+middle : (below d above w : ℕ) → below < 65536 → d < 65536 → w ≡ below + 65536 * (d + 65536 * above) → w / 65536 % 65536 ≡ d
+middle below d above w l h e = omega arith
+
+upper : (below d w : ℕ) → below < 4294967296 → d < 65536 → w ≡ below + 4294967296 * d → w / 4294967296 % 65536 ≡ d
+upper below d w l h e = omega arith
+
+-- the monitor's own two words
+pub settles : (m : List ℕ) (taken latest verdict mask dues : ℕ) → length m ≡ 34 → taken < 4294967296 → latest < 4294967296 → verdict < 256 → mask < 65536 → dues < 65536
+    → Holds (set (set m 32 (taken + 4294967296 * latest)) 33 (verdict + 65536 * mask + 4294967296 * dues))
+    (record { rules = rulesIn m; taken = taken; latest = latest; verdict = verdict; mask = mask; dues = dues })
+settles m taken latest verdict mask dues l ht hl hv hm hd =
+    let a : ℕ = taken + 4294967296 * latest in
+    let b : ℕ = verdict + 65536 * mask + 4294967296 * dues in
+    let e = same-rules (set m 32 a) 33 b (omega arith) ∙ same-rules m 32 a (omega arith) in
+    let ea : getD (set (set m 32 a) 33 b) 32 0 ≡ a = getD-set-other (set m 32 a) 33 32 b 0 (λ p. omega arith) ∙ getD-set-same m 32 a 0 (omega (arith, l)) in
+    let eb : getD (set (set m 32 a) 33 b) 33 0 ≡ b = getD-set-same (set m 32 a) 33 b 0 (omega (arith, l, length-set m 32 a)) in
+    let t : getD (set (set m 32 a) 33 b) 32 0 % 4294967296 ≡ taken = rw ea (omega arith) in
+    let s : getD (set (set m 32 a) 33 b) 32 0 / 4294967296 % 4294967296 ≡ latest = rw ea (omega arith) in
+    let v : getD (set (set m 32 a) 33 b) 33 0 % 256 ≡ verdict = rw eb (omega arith) in
+    let k : getD (set (set m 32 a) 33 b) 33 0 / 65536 % 65536 ≡ mask = rw eb (middle verdict mask dues b (omega arith) hm (omega arith)) in
+    let d : getD (set (set m 32 a) 33 b) 33 0 / 4294967296 % 65536 ≡ dues = rw eb (upper (verdict + 65536 * mask) dues b (omega arith) hd (omega arith)) in
+    record { long = length-set (set m 32 a) 33 b ∙ length-set m 32 a ∙ l; held = λ i. record { rules = e i; taken = t i; latest = s i; verdict = v i; mask = k i; dues = d i } }

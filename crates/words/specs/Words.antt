@@ -1,0 +1,86 @@
+-- A monitor's 34 words, and what they hold (document 01, "The recogniser of a range"): "The monitor's state holds, for each rule, its fragment number, eight recogniser states, one count
+-- and the end time of P." Words 2 r and 2 r + 1 are rule r's; the last two are the monitor's own. Every list of words holds some monitor.
+-- Assumes nothing.
+use mathlib.Core.Path.{_≡_}
+use mathlib.Core.List.{List, [], _∷_}
+use Prim.Native.Nat.{ℕ, _+_, _*_, _/_, _%_, _≤_}
+use lib.ListN.{length, getD, set, replicate}
+use Rattle.step.specs.declared.RuleState.{RuleState}
+use Rattle.step.specs.Upto.{mapN}
+use Rattle.step.specs.Steps.{zeros}
+
+-- ---- a rule's two words
+
+-- the eight recogniser states, a byte each
+abbrev pub statesIn : ℕ → List ℕ
+statesIn word =
+    word % 256 ∷ word / 256 % 256 ∷ word / 65536 % 256 ∷ word / 16777216 % 256
+    ∷ word / 4294967296 % 256 ∷ word / 1099511627776 % 256 ∷ word / 281474976710656 % 256 ∷ word / 72057594037927936 % 256 ∷ []
+
+-- the state of a rule: in the second word its fragment number, a byte; its count, two bytes from the third on; and the end time of P, the upper half
+unfoldable pub stateIn : ℕ → ℕ → RuleState
+stateIn states place = record { fragment = place % 256; states = statesIn states; count = place / 65536 % 65536; end = place / 4294967296 % 4294967296 }
+
+abbrev pub stateAt : List ℕ → ℕ → RuleState
+stateAt words r = stateIn (getD words (2 * r) 0) (getD words (2 * r + 1) 0)
+
+-- a state for numbers past the sixteenth, which are not looked at
+abbrev pub noState : RuleState
+noState = record { fragment = 0; states = zeros; count = 0; end = 0 }
+
+abbrev pub ruleFrom : List ℕ → ℕ → RuleState → RuleState
+ruleFrom words r st = stateAt words r
+
+unfoldable pub rulesIn : List ℕ → List RuleState
+rulesIn words = mapN (ruleFrom words) 0 16 (replicate 16 noState)
+
+-- ---- the monitor: what its words hold
+
+-- The verdict is 0 whole, 1 open, 2 broken; the mask is of the open rules, or of those that broke; the dues are the rules whose deadline runs.
+pub record Held : Type 0 where
+  pub rules : List RuleState
+  pub taken : ℕ
+  pub latest : ℕ
+  pub verdict : ℕ
+  pub mask : ℕ
+  pub dues : ℕ
+
+-- in word 32 the number taken and the latest time; in word 33 the verdict, the mask and the dues
+abbrev pub takenIn : ℕ → ℕ
+takenIn word = word % 4294967296
+
+abbrev pub latestIn : ℕ → ℕ
+latestIn word = word / 4294967296 % 4294967296
+
+abbrev pub verdictNumberIn : ℕ → ℕ
+verdictNumberIn word = word % 256
+
+abbrev pub maskIn : ℕ → ℕ
+maskIn word = word / 65536 % 65536
+
+abbrev pub duesIn : ℕ → ℕ
+duesIn word = word / 4294967296 % 65536
+
+-- the monitor that the words hold
+abbrev pub heldBy : List ℕ → Held
+heldBy words = record {
+  rules = rulesIn words;
+  taken = takenIn (getD words 32 0);
+  latest = latestIn (getD words 32 0);
+  verdict = verdictNumberIn (getD words 33 0);
+  mask = maskIn (getD words 33 0);
+  dues = duesIn (getD words 33 0);
+}
+
+-- ---- the changes, of words that are 34, as their type says
+
+-- rule r gets a state, and nothing else changes
+pub record Stores (before : List ℕ) (r : ℕ) (st : RuleState) (after : List ℕ) : Type 0 where
+  pub long : length after ≡ 34
+  pub rules : rulesIn after ≡ set (rulesIn before) r st
+  pub rest : (i : ℕ) → 32 ≤ i → getD after i 0 ≡ getD before i 0
+
+-- the words hold this monitor
+pub record Holds (words : List ℕ) (m : Held) : Type 0 where
+  pub long : length words ≡ 34
+  pub held : heldBy words ≡ m

@@ -1,0 +1,125 @@
+// The memory of a monitor: 34 words, which a caller lends and which are changed in place. For each rule "its fragment number, eight recogniser states, one count and the end time
+// of P", and then the number taken, the latest time, the verdict and its masks. A rule's state goes in and out by value. Every word is taken, and a rule's number is reduced by a
+// remainder, so that nothing is asked of either.
+ghost use mathlib.Core.Path.{_≡_};
+ghost use Prim.Native.Nat.{_%_, _/_, _<_};
+ghost use lib.ListN.{length, getD};
+ghost use Rattle.words.specs.Words.{statesIn, stateIn, noState, rulesIn, takenIn, latestIn, verdictNumberIn, maskIn, duesIn, heldBy, Stores, Holds};
+use step::RuleState;
+
+// ---- a rule's two words
+
+fn wide(x: u8) -> u64
+    ensures { λ r. ⌜ (r ≡ x) × (r < 256) ⌝ }
+{
+    x as u64
+}
+
+// The word of eight recogniser states.
+fn states_word(x: [u8; 8]) -> u64
+    ensures { λ r. ⌜ statesIn r ≡ x ⌝ }
+{
+    let low = wide(x[0]) + 256 * wide(x[1]) + 65536 * wide(x[2]) + 16777216 * wide(x[3]);
+    let high = wide(x[4]) + 256 * wide(x[5]) + 65536 * wide(x[6]) + 16777216 * wide(x[7]);
+    low + 4294967296 * high
+}
+
+// The word of a fragment number, a count and an end time of P.
+fn place_word(fragment: u8, count: u16, end: u32) -> u64
+    ensures { λ r. ⌜ (r % 256 ≡ fragment) × (r / 65536 % 65536 ≡ count) × (r / 4294967296 % 4294967296 ≡ end) ⌝ }
+{
+    fragment as u64 + 65536 * (count as u64) + 4294967296 * (end as u64)
+}
+
+// The state that two words hold.
+fn state_in(states: u64, place: u64) -> RuleState
+    ensures { λ r. ⌜ r ≡ stateIn states place ⌝ }
+{
+    let x = [
+        (states % 256) as u8,
+        (states / 256 % 256) as u8,
+        (states / 65536 % 256) as u8,
+        (states / 16777216 % 256) as u8,
+        (states / 4294967296 % 256) as u8,
+        (states / 1099511627776 % 256) as u8,
+        (states / 281474976710656 % 256) as u8,
+        (states / 72057594037927936 % 256) as u8,
+    ];
+    RuleState {
+        fragment: (place % 256) as u8,
+        states: x,
+        count: (place / 65536 % 65536) as u16,
+        end: (place / 4294967296 % 4294967296) as u32,
+    }
+}
+
+// The state of rule r.
+pub fn load(m: &[u64; 34], r: usize) -> RuleState
+    ensures { λ st. ⌜ st ≡ getD (rulesIn (now (m .entry))) (r % 16) noState ⌝ }
+{
+    let k = 2 * (r % 16);
+    state_in(m[k], m[k + 1])
+}
+
+// The end time of P of rule r.
+pub fn end_of(m: &[u64; 34], r: usize) -> u32
+    ensures { λ e. ⌜ e ≡ getD (rulesIn (now (m .entry))) (r % 16) noState .end ⌝ }
+{
+    let k = 2 * (r % 16);
+    (m[k + 1] / 4294967296 % 4294967296) as u32
+}
+
+// Rule r gets a state.
+pub fn store(m: &mut [u64; 34], r: usize, st: RuleState)
+    ensures { λ _. ⌜ (length (now (m .entry)) ≡ 34 → Stores (now (m .entry)) (r % 16) st (now (m .exit))) ⌝ }
+{
+    let k = 2 * (r % 16);
+    let x = st.states;
+    m[k] = states_word(x);
+    m[k + 1] = place_word(st.fragment, st.count, st.end);
+}
+
+// ---- the monitor's own two words
+
+// The number taken.
+pub fn taken(m: &[u64; 34]) -> u32
+    ensures { λ r. ⌜ r ≡ heldBy (now (m .entry)) .taken ⌝ }
+{
+    (m[32] % 4294967296) as u32
+}
+
+// The latest time.
+pub fn latest(m: &[u64; 34]) -> u32
+    ensures { λ r. ⌜ r ≡ heldBy (now (m .entry)) .latest ⌝ }
+{
+    (m[32] / 4294967296 % 4294967296) as u32
+}
+
+// The verdict: 0 whole, 1 open, 2 broken; other numbers are in no monitor that these calls make.
+pub fn verdict(m: &[u64; 34]) -> u8
+    ensures { λ r. ⌜ r ≡ heldBy (now (m .entry)) .verdict ⌝ }
+{
+    (m[33] % 256) as u8
+}
+
+// The mask of the open rules, or of those that broke.
+pub fn mask(m: &[u64; 34]) -> u16
+    ensures { λ r. ⌜ r ≡ heldBy (now (m .entry)) .mask ⌝ }
+{
+    (m[33] / 65536 % 65536) as u16
+}
+
+// The mask of the rules whose deadline runs.
+pub fn dues(m: &[u64; 34]) -> u16
+    ensures { λ r. ⌜ r ≡ heldBy (now (m .entry)) .dues ⌝ }
+{
+    (m[33] / 4294967296 % 65536) as u16
+}
+
+// All but the rules' states.
+pub fn settle(m: &mut [u64; 34], taken: u32, latest: u32, verdict: u8, mask: u16, dues: u16)
+    ensures { λ _. ⌜ (length (now (m .entry)) ≡ 34 → Holds (now (m .exit)) (record { rules = rulesIn (now (m .entry)); taken = taken; latest = latest; verdict = verdict; mask = mask; dues = dues })) ⌝ }
+{
+    m[32] = taken as u64 + 4294967296 * (latest as u64);
+    m[33] = verdict as u64 + 65536 * (mask as u64) + 4294967296 * (dues as u64);
+}
