@@ -9,11 +9,11 @@ use lib.ListN.{length, length-append}
 use lib.Seq.{append-snoc}
 use Rattle.pattern.specs.Meaning.{Range, Fragment, fragmentNames, orderingNames}
 use Rattle.names.specs.Names.{insert, insertAll}
-use Rattle.sheet.specs.Layout.{each}
-use Rattle.sheet.specs.Form.{Form, Got, got, stopped, next, read}
-use Rattle.sheet.specs.Reading.{several, rangeName}
-use Rattle.sheet.specs.Pages.{fill}
-use Rattle.sheet.proofs.Forms.{read-several}
+use Rattle.layout.specs.Layout.{each}
+use Rattle.layout.specs.Form.{Form, Got, got, stopped, next, read}
+use Rattle.layout.specs.Reading.{several, rangeName}
+use Rattle.layout.specs.Pages.{fill}
+use Rattle.layout.proofs.Forms.{read-several}
 
 -- ---- sets and tables, one more at the end
 

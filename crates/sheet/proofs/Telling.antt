@@ -9,8 +9,8 @@ use native.Mathlib.Omega.{arith}
 use lib.Dec.{ltb}
 use lib.ListN.{length}
 use borrow.Author.Tests.{lt-ltb, le-ltb}
-use Rattle.sheet.specs.Form.{Got, got, stopped, number, fieldAt, unless}
-use Rattle.sheet.specs.Reading.{noFault}
+use Rattle.layout.specs.Form.{Got, got, stopped, number, fieldAt, unless}
+use Rattle.layout.specs.Reading.{noFault}
 use Rattle.sheet.specs.Told.{Told, right, wrong, Value}
 
 -- ---- a field whose value may be anything

@@ -7,10 +7,10 @@ use Prim.Native.Nat.{ℕ, _^_, _<_, _≤_}
 use lib.ListN.{length}
 use Rattle.pattern.specs.Meaning.{Range, Fragment, fragmentNames, orderingNames, Rule, Between}
 use Rattle.names.specs.Names.{insert, insertAll}
-use Rattle.sheet.specs.Layout.{Sheet, Header}
-use Rattle.sheet.specs.Form.{Got, got, stopped}
-use Rattle.sheet.specs.Reading.{triggerSet}
-use Rattle.sheet.specs.Pages.{headerWord, fill, putRange, putRanges, putFragment, putRule, putRuleFragments, putRuleRanges}
+use Rattle.layout.specs.Layout.{Sheet, Header}
+use Rattle.layout.specs.Form.{Got, got, stopped}
+use Rattle.layout.specs.Reading.{triggerSet}
+use Rattle.layout.specs.Pages.{headerWord, fill, putRange, putRanges, putFragment, putRule, putRuleFragments, putRuleRanges}
 
 pub data Told {A : Type 0} (s : List ℕ) (fault at : ℕ) (Shows : A → Type 0) (g : Got A) : Type 0 where
   right : (a : A) → g ≡ got a at → fault ≡ 0 → at ≤ length s → Shows a → Told s fault at Shows g

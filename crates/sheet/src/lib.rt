@@ -6,9 +6,9 @@ ghost use Prim.Native.Nat.{_+_, _*_, _^_, _<_, _≤_};
 ghost use lib.Dec.{ltb};
 ghost use lib.ListN.{length};
 ghost use Rattle.names.specs.Names.{member, insert};
-ghost use Rattle.sheet.specs.Form.{number, fieldAt, read};
-ghost use Rattle.sheet.specs.Reading.{nameFault, triggerFault, inOrder, unlike, outside, below, dueZero, noFault, byKind, range, ranges, fragment, fragments, header, rule, rules, sheet};
-ghost use Rattle.sheet.specs.Pages.{triggerFragments};
+ghost use Rattle.layout.specs.Form.{number, fieldAt, read};
+ghost use Rattle.layout.specs.Reading.{nameFault, triggerFault, inOrder, unlike, outside, below, dueZero, noFault, byKind, range, ranges, fragment, fragments, header, rule, rules, sheet};
+ghost use Rattle.layout.specs.Pages.{triggerFragments};
 ghost use Rattle.sheet.specs.Told.{Told, Value, Within, RangeShown, RangesShown, FragmentShown, FragmentsShown, Stored, HeaderShown, RuleShown, RulesShown, SheetShown};
 ghost use Rattle.sheet.specs.Answers.{Reads};
 

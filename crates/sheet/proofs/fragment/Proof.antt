@@ -6,10 +6,10 @@ use Prim.Native.Nat.{ℕ, _+_, _*_}
 use native.Mathlib.Omega.{arith}
 use lib.ListN.{set}
 use Rattle.pattern.specs.Meaning.{Between}
-use Rattle.sheet.specs.Form.{got, stopped, next, fieldAt, read}
-use Rattle.sheet.specs.Reading.{outside, joinOf, ranges, fragment}
+use Rattle.layout.specs.Form.{got, stopped, next, fieldAt, read}
+use Rattle.layout.specs.Reading.{outside, joinOf, ranges, fragment}
 use Rattle.sheet.specs.Told.{Told, right, wrong, RangesShown, FragmentShown}
-use Rattle.sheet.proofs.Parts.{join-number, ranges-length, read-fragment}
+use Rattle.layout.proofs.Parts.{join-number, ranges-length, read-fragment}
 use Rattle.sheet.proofs.Telling.{passed, heard-number}
 use borrow.Author.Needs.{needs}
 use Rattle.sheet.proofs.fragment.Statement.{statement}

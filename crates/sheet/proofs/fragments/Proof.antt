@@ -6,9 +6,9 @@ use Prim.Native.Nat.{ℕ, _+_, _-_, _<_}
 use native.Mathlib.Omega.{arith}
 use Rattle.pattern.specs.Meaning.{Fragment, fragmentNames}
 use Rattle.names.specs.Names.{insertAll}
-use Rattle.sheet.specs.Form.{read}
-use Rattle.sheet.specs.Reading.{fragment, fragments}
-use Rattle.sheet.specs.Pages.{putFragment, putRanges}
+use Rattle.layout.specs.Form.{read}
+use Rattle.layout.specs.Reading.{fragment, fragments}
+use Rattle.layout.specs.Pages.{putFragment, putRanges}
 use Rattle.sheet.specs.Told.{Told, right, wrong, FragmentShown, Stored}
 use Rattle.sheet.proofs.Telling.{passed}
 use Rattle.sheet.proofs.Loops.{SoFar, begin, more, fail, finish, fill-snoc, names-of-fragments}

@@ -3,8 +3,8 @@ use mathlib.Core.Path.{_≡_, refl}
 use mathlib.Core.List.{List}
 use Prim.Native.Nat.{ℕ}
 use native.Mathlib.Omega.{arith}
-use Rattle.sheet.specs.Form.{got, stopped, fieldAt, read}
-use Rattle.sheet.specs.Reading.{outside, byKind, dueZero, noFault, triggerFault, header}
+use Rattle.layout.specs.Form.{got, stopped, fieldAt, read}
+use Rattle.layout.specs.Reading.{outside, byKind, dueZero, noFault, triggerFault, header}
 use Rattle.sheet.specs.Told.{right}
 use Rattle.sheet.proofs.Telling.{passed, heard-number}
 use borrow.Author.Needs.{needs}

@@ -5,8 +5,8 @@ use Prim.Native.Nat.{ℕ, _≤_}
 use native.Mathlib.Omega.{arith}
 use lib.Dec.{ltb}
 use Rattle.names.specs.Names.{member}
-use Rattle.sheet.specs.Reading.{inOrder, nameFault}
-use Rattle.sheet.proofs.Values.{name-faultless}
+use Rattle.layout.specs.Reading.{inOrder, nameFault}
+use Rattle.layout.proofs.Values.{name-faultless}
 use Rattle.sheet.proofs.Telling.{tested, tested-at, untested, stops-at, some, heard-number}
 -- what the code found is the name's fault
 use borrow.Author.Needs.{needs}

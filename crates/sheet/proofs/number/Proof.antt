@@ -5,9 +5,9 @@ use Prim.Native.Nat.{ℕ, suc, _+_, _-_, _*_, _^_, _<_, _≤_}
 use native.Mathlib.Nat.{pow-le-pow-right}
 use native.Mathlib.Omega.{arith}
 use lib.ListN.{getD}
-use Rattle.sheet.specs.Form.{number}
+use Rattle.layout.specs.Form.{number}
 use Rattle.sheet.specs.Told.{Value}
-use Rattle.sheet.proofs.Fields.{bytes-of, number-small}
+use Rattle.layout.proofs.Fields.{bytes-of, number-small}
 -- a number of fewer than eight bytes has room for one more
 -- x is the number of the bytes from k on
 use borrow.Author.Needs.{needs}

@@ -4,10 +4,10 @@ use mathlib.Core.Bool.{Bool}
 use mathlib.Core.List.{List}
 use Prim.Native.Nat.{ℕ}
 use native.Mathlib.Omega.{arith}
-use Rattle.sheet.specs.Form.{got, stopped, fieldAt, read}
-use Rattle.sheet.specs.Reading.{nameFault, below, range}
+use Rattle.layout.specs.Form.{got, stopped, fieldAt, read}
+use Rattle.layout.specs.Reading.{nameFault, below, range}
 use Rattle.sheet.specs.Told.{right}
-use Rattle.sheet.proofs.Values.{with-name}
+use Rattle.layout.proofs.Values.{with-name}
 use Rattle.sheet.proofs.Telling.{passed, heard-number}
 use borrow.Author.Needs.{needs}
 use Rattle.sheet.proofs.range.Statement.{statement}

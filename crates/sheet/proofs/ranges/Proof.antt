@@ -6,9 +6,9 @@ use Prim.Native.Nat.{ℕ, _+_, _-_, _<_}
 use native.Mathlib.Omega.{arith}
 use Rattle.pattern.specs.Meaning.{Range}
 use Rattle.names.specs.Names.{insertAll}
-use Rattle.sheet.specs.Form.{read}
-use Rattle.sheet.specs.Reading.{range, ranges, rangeName}
-use Rattle.sheet.specs.Pages.{fill, putRange}
+use Rattle.layout.specs.Form.{read}
+use Rattle.layout.specs.Reading.{range, ranges, rangeName}
+use Rattle.layout.specs.Pages.{fill, putRange}
 use Rattle.sheet.specs.Told.{Told, right, wrong, RangeShown}
 use Rattle.sheet.proofs.Telling.{passed}
 use Rattle.sheet.proofs.Loops.{SoFar, begin, more, fail, finish, fill-snoc, names-of-ranges}

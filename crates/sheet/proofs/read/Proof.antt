@@ -5,10 +5,10 @@ use Prim.Native.Nat.{ℕ, _≤_, _<_}
 use native.Mathlib.Omega.{arith}
 use lib.ListN.{length, replicate}
 use borrow.Author.Tests.{lt-ltb, le-ltb}
-use Rattle.sheet.specs.Layout.{Sheet}
-use Rattle.sheet.specs.Form.{got, stopped, read}
-use Rattle.sheet.specs.Reading.{sheet, Outcome, accepted, refused, readSheet}
-use Rattle.sheet.specs.Pages.{headTable, fragmentTable, rangeTable}
+use Rattle.layout.specs.Layout.{Sheet}
+use Rattle.layout.specs.Form.{got, stopped, read}
+use Rattle.layout.specs.Reading.{sheet, Outcome, accepted, refused, readSheet}
+use Rattle.layout.specs.Pages.{headTable, fragmentTable, rangeTable}
 use Rattle.sheet.specs.Told.{SheetShown}
 use Rattle.sheet.specs.Answers.{answerOf, pagesOf, Reads}
 use Rattle.sheet.specs.declared.Pages.{Pages}

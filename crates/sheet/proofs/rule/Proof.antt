@@ -8,14 +8,14 @@ use lib.ListN.{length, set}
 use Rattle.pattern.specs.Meaning.{Fragment, orderingNames}
 use Rattle.pattern.specs.Model.{lastFragments}
 use Rattle.names.specs.Names.{insertAll}
-use Rattle.sheet.specs.Layout.{Header, Bytes}
-use Rattle.sheet.specs.Form.{got, stopped, next, read}
-use Rattle.sheet.specs.Reading.{kindOf, header, fragments, rule}
-use Rattle.sheet.specs.Pages.{fill, headerWord, putFragment, putRanges, triggerFragments}
+use Rattle.layout.specs.Layout.{Header, Bytes}
+use Rattle.layout.specs.Form.{got, stopped, next, read}
+use Rattle.layout.specs.Reading.{kindOf, header, fragments, rule}
+use Rattle.layout.specs.Pages.{fill, headerWord, putFragment, putRanges, triggerFragments}
 use Rattle.sheet.specs.Told.{Told, right, wrong, HeaderShown, FragmentsShown, Stored, RuleShown}
-use Rattle.sheet.proofs.Values.{ByKind}
-use Rattle.sheet.proofs.Fields.{bytes-of}
-use Rattle.sheet.proofs.Parts.{header-sound, made, header-of, fragments-length, read-rule}
+use Rattle.layout.proofs.Values.{ByKind}
+use Rattle.layout.proofs.Fields.{bytes-of}
+use Rattle.layout.proofs.Parts.{header-sound, made, header-of, fragments-length, read-rule}
 use Rattle.sheet.proofs.Telling.{passed, heard}
 use Rattle.sheet.proofs.Loops.{fill-append}
 -- the trigger's fragment and Q's are the last ones of the round

@@ -6,9 +6,9 @@ use native.Mathlib.Omega.{arith}
 use native.Mathlib.Nat.{zero-add}
 use lib.ListN.{length}
 use Rattle.pattern.specs.Meaning.{Rule}
-use Rattle.sheet.specs.Form.{read}
-use Rattle.sheet.specs.Reading.{rule, rules}
-use Rattle.sheet.specs.Pages.{fill, putRule, putRuleFragments, putRuleRanges}
+use Rattle.layout.specs.Form.{read}
+use Rattle.layout.specs.Reading.{rule, rules}
+use Rattle.layout.specs.Pages.{fill, putRule, putRuleFragments, putRuleRanges}
 use Rattle.sheet.specs.Told.{Told, right, wrong, RuleShown, RulesShown}
 use Rattle.sheet.proofs.Telling.{passed}
 use Rattle.sheet.proofs.Loops.{SoFar, begin, more, fail, finish, fill-snoc}

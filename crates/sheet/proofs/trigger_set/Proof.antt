@@ -2,7 +2,7 @@
 use mathlib.Core.Path.{_∙_}
 use native.Mathlib.Omega.{arith}
 use borrow.Author.Tests.{eq-eqb, ne-eqb}
-use Rattle.sheet.proofs.Values.{with-name}
+use Rattle.layout.proofs.Values.{with-name}
 use borrow.Author.Needs.{needs}
 use Rattle.sheet.proofs.trigger_set.Statement.{statement}
 use Rattle.sheet.proofs.trigger_set.Tie as tie

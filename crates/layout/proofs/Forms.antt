@@ -6,10 +6,10 @@ use Prim.Native.Nat.{ℕ, zero, suc, _≤_}
 use native.Mathlib.Omega.{arith}
 use lib.ListN.{length, drop}
 use Rattle.names.specs.Names.{insertAll}
-use Rattle.sheet.specs.Layout.{each}
-use Rattle.sheet.specs.Form.{Form, done, field, _>>=_, Got, got, stopped, next, fieldAt, read}
-use Rattle.sheet.specs.Reading.{several}
-use Rattle.sheet.proofs.Fields.{Piece, join-pieces, no-piece, Finds}
+use Rattle.layout.specs.Layout.{each}
+use Rattle.layout.specs.Form.{Form, done, field, _>>=_, Got, got, stopped, next, fieldAt, read}
+use Rattle.layout.specs.Reading.{several}
+use Rattle.layout.proofs.Fields.{Piece, join-pieces, no-piece, Finds}
 
 -- ---- one after the other
 

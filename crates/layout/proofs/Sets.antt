@@ -13,9 +13,9 @@ use Rattle.pattern.specs.Lists.{In, Distinct, Each}
 use Rattle.pattern.specs.Meaning.{Range, Fragment, fragmentNames, orderingNames, WellFormedRange, WellFormedFragment}
 use Rattle.names.specs.Names.{member, insert, insertAll}
 use Rattle.names.proofs.Sets.{member-insert, member-empty}
-use Rattle.sheet.specs.Reading.{rangeName}
-use Rattle.sheet.proofs.Forms.{AllGood}
-use Rattle.sheet.proofs.Parts.{RangeFits, FragmentFits}
+use Rattle.layout.specs.Reading.{rangeName}
+use Rattle.layout.proofs.Forms.{AllGood}
+use Rattle.layout.proofs.Parts.{RangeFits, FragmentFits}
 
 -- ---- lists
 

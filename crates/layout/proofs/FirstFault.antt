@@ -11,9 +11,9 @@ use native.Mathlib.Omega.{arith}
 use lib.Dec.{ltb}
 use lib.ListN.{length}
 use borrow.Author.Tests.{ltb-true, ltb-false, lt-ltb}
-use Rattle.sheet.specs.Layout.{Sheet}
-use Rattle.sheet.specs.Form.{Form, done, field, Got, got, stopped, next, number, fieldAt, read, RightField, HasFault, FirstFault}
-use Rattle.sheet.specs.Reading.{sheet, accepted, refused, atEnd, readSheet}
+use Rattle.layout.specs.Layout.{Sheet}
+use Rattle.layout.specs.Form.{Form, done, field, Got, got, stopped, next, number, fieldAt, read, RightField, HasFault, FirstFault}
+use Rattle.layout.specs.Reading.{sheet, accepted, refused, atEnd, readSheet}
 
 module _ (s : List ℕ) where
   -- ---- a field: it is right, or it has a fault

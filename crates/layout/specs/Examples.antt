@@ -5,9 +5,9 @@ use Prim.Native.Nat.{ℕ}
 use lib.ListN.{take, set}
 use Rattle.pattern.specs.Meaning.{all, repeated}
 use Rattle.names.specs.Names.{member, insert}
-use Rattle.sheet.specs.Layout.{Sheet, encode}
-use Rattle.sheet.specs.Form.{number, fieldAt}
-use Rattle.sheet.specs.Reading.{accepted, refused, readSheet, sheet, rules, rule, header, fragments, fragment, ranges, range, several}
+use Rattle.layout.specs.Layout.{Sheet, encode}
+use Rattle.layout.specs.Form.{number, fieldAt}
+use Rattle.layout.specs.Reading.{accepted, refused, readSheet, sheet, rules, rule, header, fragments, fragment, ranges, range, several}
 
 -- "book.lob holds R alone with outputs 0", R being kind 1, {0, 1} all before 2, bounds [1,1]
 abbrev pub printed : Sheet

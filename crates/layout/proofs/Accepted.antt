@@ -7,10 +7,10 @@ use lib.ListN.{length}
 use Rattle.pattern.specs.Lists.{Each}
 use Rattle.pattern.specs.Meaning.{Rule, WellFormed}
 use Rattle.pattern.specs.Agreement.{WellFormedRules}
-use Rattle.sheet.specs.Layout.{Sheet, encode, WellFormedRule, WellFormedSheet, longest, Bytes}
-use Rattle.sheet.specs.Reading.{accepted, readSheet}
-use Rattle.sheet.proofs.Acceptance.{accepted-is-encoded, encoded-is-accepted}
-use Rattle.sheet.proofs.Length.{sheet-length}
+use Rattle.layout.specs.Layout.{Sheet, encode, WellFormedRule, WellFormedSheet, longest, Bytes}
+use Rattle.layout.specs.Reading.{accepted, readSheet}
+use Rattle.layout.proofs.Acceptance.{accepted-is-encoded, encoded-is-accepted}
+use Rattle.layout.proofs.Length.{sheet-length}
 
 sheet-of : {S T : Sheet} → accepted S ≡ accepted T → S ≡ T
 sheet-of e = cc e

@@ -6,8 +6,8 @@ use Prim.Native.Nat.{ℕ, suc, _+_, _*_}
 use lib.ListN.{length, getD, set, replicate}
 use Rattle.pattern.specs.Meaning.{Range, Fragment, timed, Rule}
 use Rattle.pattern.specs.Model.{triggerFragment, roundOf, fragmentAt}
-use Rattle.sheet.specs.Layout.{Header, headerOf, joinNumber}
-use Rattle.sheet.specs.Reading.{byKind}
+use Rattle.layout.specs.Layout.{Header, headerOf, joinNumber}
+use Rattle.layout.specs.Reading.{byKind}
 
 -- ---- a part as one number: its own bytes, little-endian
 

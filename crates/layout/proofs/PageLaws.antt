@@ -11,9 +11,9 @@ use lib.Seq.{getD-set-same, getD-set-other}
 use Rattle.pattern.specs.Lists.{Each}
 use Rattle.pattern.specs.Meaning.{Range, Fragment, Kind, once, repeated, timed, Rule, WellFormedFragment, WellFormed}
 use Rattle.pattern.specs.Model.{triggerFragment, lastFragments, roundOf, noFragment, fragmentAt}
-use Rattle.sheet.specs.Layout.{headerOf}
-use Rattle.sheet.specs.Pages.{rangeWord, fragmentWord, headerWord, fill, putRange, putRanges, putFragment, putRuleRanges, putRuleFragments, putRule, headTable, fragmentTable, rangeTable, noRange, noRule, ruleAt, rangeAt}
-use Rattle.sheet.proofs.Sets.{each-append}
+use Rattle.layout.specs.Layout.{headerOf}
+use Rattle.layout.specs.Pages.{rangeWord, fragmentWord, headerWord, fill, putRange, putRanges, putFragment, putRuleRanges, putRuleFragments, putRule, headTable, fragmentTable, rangeTable, noRange, noRule, ruleAt, rangeAt}
+use Rattle.layout.proofs.Sets.{each-append}
 
 -- ---- tables
 

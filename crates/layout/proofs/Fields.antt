@@ -12,8 +12,8 @@ use lib.Dec.{ltb}
 use lib.ListN.{length, getD, drop, length-append, length-drop}
 use lib.Seq.{drop-cons, drop-drop, drop-at, getD-drop}
 use borrow.Author.Tests.{le-ltb, ltb-false}
-use Rattle.sheet.specs.Layout.{le, Bytes}
-use Rattle.sheet.specs.Form.{Got, got, stopped, fieldAt, number, unless}
+use Rattle.layout.specs.Layout.{le, Bytes}
+use Rattle.layout.specs.Form.{Got, got, stopped, fieldAt, number, unless}
 
 -- ---- bytes
 

@@ -8,8 +8,8 @@ use lib.Dec.{ltb, eqb}
 use borrow.Author.Tests.{lt-ltb, le-ltb, ltb-false, eqb-true, eq-eqb}
 use Rattle.pattern.specs.Meaning.{Between}
 use Rattle.names.specs.Names.{member, insert, withName}
-use Rattle.sheet.specs.Layout.{Input}
-use Rattle.sheet.specs.Reading.{_when_or_, noFault, unlike, dueZero, outside, below, inOrder, nameFault, triggerFault, byKind}
+use Rattle.layout.specs.Layout.{Input}
+use Rattle.layout.specs.Reading.{_when_or_, noFault, unlike, dueZero, outside, below, inOrder, nameFault, triggerFault, byKind}
 
 pub unlike-faultless : (k due x : ℕ) → unlike (suc k) due x ≡ 0 → x ≡ due
 unlike-faultless k due x = go (eqb x due) refl

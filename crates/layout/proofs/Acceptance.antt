@@ -12,14 +12,14 @@ use Rattle.pattern.specs.Lists.{Each, Distinct}
 use Rattle.pattern.specs.Meaning.{Fragment, fragmentNames, orderingNames, Kind, once, repeated, timed, Rule, Between, WellFormedOrdering}
 use Rattle.names.specs.Names.{member, insert, insertAll}
 use Rattle.names.proofs.Sets.{member-empty}
-use Rattle.sheet.specs.Layout.{Sheet, le, each, ruleBytes, mark, version, encode, Output, WellFormedRule, WellFormedSheet, Bytes}
-use Rattle.sheet.specs.Form.{Got, got, stopped, next, fieldAt, read}
-use Rattle.sheet.specs.Reading.{markFault, versionFault, noFault, rulesFault, rule, rules, sheet, accepted, refused, atEnd, readSheet}
-use Rattle.sheet.proofs.Values.{unlike-faultless, unlike-right, outside-faultless, outside-right}
-use Rattle.sheet.proofs.Fields.{Piece, join-pieces, FieldGot, field-sound, field-complete, Finds}
-use Rattle.sheet.proofs.Forms.{next-got, next-same, moved, read-bind, Sound, AllGood, several-sound, several-complete}
-use Rattle.sheet.proofs.Parts.{FragmentFits, RuleFits, rule-sound, rule-complete}
-use Rattle.sheet.proofs.Sets.{trigger-last, trigger-first, Direction, fresh-distinct, distinct-fresh, fresh-append, append-fresh, fragments-split, fragments-join}
+use Rattle.layout.specs.Layout.{Sheet, le, each, ruleBytes, mark, version, encode, Output, WellFormedRule, WellFormedSheet, Bytes}
+use Rattle.layout.specs.Form.{Got, got, stopped, next, fieldAt, read}
+use Rattle.layout.specs.Reading.{markFault, versionFault, noFault, rulesFault, rule, rules, sheet, accepted, refused, atEnd, readSheet}
+use Rattle.layout.proofs.Values.{unlike-faultless, unlike-right, outside-faultless, outside-right}
+use Rattle.layout.proofs.Fields.{Piece, join-pieces, FieldGot, field-sound, field-complete, Finds}
+use Rattle.layout.proofs.Forms.{next-got, next-same, moved, read-bind, Sound, AllGood, several-sound, several-complete}
+use Rattle.layout.proofs.Parts.{FragmentFits, RuleFits, rule-sound, rule-complete}
+use Rattle.layout.proofs.Sets.{trigger-last, trigger-first, Direction, fresh-distinct, distinct-fresh, fresh-append, append-fresh, fragments-split, fragments-join}
 
 -- ---- the whole sheet, and a sheet that fits
 

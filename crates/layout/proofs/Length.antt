@@ -11,8 +11,8 @@ use lib.ListN.{length, length-append, length-map}
 use borrow.Author.Tests.{eqb-true, eqb-false}
 use Rattle.pattern.specs.Lists.{In, Distinct, Each}
 use Rattle.pattern.specs.Meaning.{Range, Fragment, fragmentNames, orderingNames, Kind, once, repeated, timed, Rule, kindNames, namesOf, WellFormedRange, WellFormedFragment, WellFormed}
-use Rattle.sheet.specs.Layout.{Sheet, each, rangeBytes, fragmentBytes, ruleBytes, encode, WellFormedRule, WellFormedSheet, longest}
-use Rattle.sheet.proofs.Sets.{each-append}
+use Rattle.layout.specs.Layout.{Sheet, each, rangeBytes, fragmentBytes, ruleBytes, encode, WellFormedRule, WellFormedSheet, longest}
+use Rattle.layout.proofs.Sets.{each-append}
 
 -- ---- distinct numbers below k are at most k
 

@@ -7,8 +7,8 @@ use lib.Dec.{ltb, eqb}
 use lib.ListN.{length}
 use Rattle.pattern.specs.Meaning.{Range, Join, all, any, Fragment, fragmentNames, orderingNames, Kind, once, repeated, timed, Rule}
 use Rattle.names.specs.Names.{member, insert, insertAll}
-use Rattle.sheet.specs.Layout.{Sheet, Header, mark, version}
-use Rattle.sheet.specs.Form.{Form, done, field, _>>=_, ask, Got, got, stopped, read}
+use Rattle.layout.specs.Layout.{Sheet, Header, mark, version}
+use Rattle.layout.specs.Form.{Form, done, field, _>>=_, ask, Got, got, stopped, read}
 
 -- ---- the faults of a field's value: the number of the first that it has, or 0
 

@@ -9,12 +9,12 @@ use native.Mathlib.Omega.{arith}
 use lib.ListN.{length, drop}
 use Rattle.pattern.specs.Meaning.{Range, Join, all, any, Fragment, fragmentNames, orderingNames, Kind, once, repeated, timed, Rule, Between, WellFormedRange}
 use Rattle.names.specs.Names.{insertAll}
-use Rattle.sheet.specs.Layout.{le, each, joinNumber, kindNumber, inQ, triggerOf, timeOf, rangeBytes, fragmentBytes, Header, headerOf, headerBytes, ruleBytes, Bytes}
-use Rattle.sheet.specs.Form.{got, next, fieldAt, read}
-use Rattle.sheet.specs.Reading.{outside, below, nameFault, triggerFault, dueZero, noFault, byKind, joinOf, kindOf, triggerSet, rangeName, range, ranges, fragment, fragments, header, rule}
-use Rattle.sheet.proofs.Values.{outside-faultless, outside-right, below-faultless, below-right, NameFits, name-faultless, name-right, ByKind, kind-faultless, kind-right}
-use Rattle.sheet.proofs.Fields.{Piece, join-pieces, FieldGot, field-sound, field-complete, Finds}
-use Rattle.sheet.proofs.Forms.{next-got, next-same, moved, read-bind, several-length, Sound, AllGood, several-sound, several-complete}
+use Rattle.layout.specs.Layout.{le, each, joinNumber, kindNumber, inQ, triggerOf, timeOf, rangeBytes, fragmentBytes, Header, headerOf, headerBytes, ruleBytes, Bytes}
+use Rattle.layout.specs.Form.{got, next, fieldAt, read}
+use Rattle.layout.specs.Reading.{outside, below, nameFault, triggerFault, dueZero, noFault, byKind, joinOf, kindOf, triggerSet, rangeName, range, ranges, fragment, fragments, header, rule}
+use Rattle.layout.proofs.Values.{outside-faultless, outside-right, below-faultless, below-right, NameFits, name-faultless, name-right, ByKind, kind-faultless, kind-right}
+use Rattle.layout.proofs.Fields.{Piece, join-pieces, FieldGot, field-sound, field-complete, Finds}
+use Rattle.layout.proofs.Forms.{next-got, next-same, moved, read-bind, several-length, Sound, AllGood, several-sound, several-complete}
 
 -- ---- a range
 
