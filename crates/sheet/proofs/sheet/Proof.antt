@@ -7,10 +7,10 @@ use lib.ListN.{length}
 use Rattle.pattern.specs.Meaning.{Rule}
 use Rattle.layout.specs.Form.{got, stopped, fieldAt, read}
 use Rattle.layout.specs.Reading.{markFault, versionFault, noFault, rulesFault, rules, sheet}
-use Rattle.sheet.specs.Told.{right}
+use Rattle.fields.specs.Told.{right}
 use Rattle.layout.proofs.Forms.{several-length}
 use Rattle.layout.proofs.Acceptance.{read-sheet}
-use Rattle.sheet.proofs.Telling.{passed, heard, heard-number}
+use Rattle.fields.proofs.Telling.{passed, heard, heard-number}
 use borrow.Author.Needs.{needs}
 use Rattle.sheet.proofs.sheet.Statement.{statement}
 use Rattle.sheet.proofs.sheet.Tie as tie
