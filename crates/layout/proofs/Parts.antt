@@ -200,7 +200,7 @@ pub record RuleFits (outputs : ℕ) (r : Rule) : Type 0 where
   pub p : AllGood fragmentNames (FragmentFits outputs false) (triggerSet (headerOf r)) (r .p)
   pub q : AllGood fragmentNames (FragmentFits outputs true) (insertAll (triggerSet (headerOf r)) (orderingNames (r .p))) (inQ (r .kind))
 
-nothing : {A : Type 0} (xs : List A) → length xs ≡ 0 → xs ≡ []
+pub nothing : {A : Type 0} (xs : List A) → length xs ≡ 0 → xs ≡ []
 nothing [] e = refl
 nothing (x ∷ xs) e = absurd (omega (arith, e))
 

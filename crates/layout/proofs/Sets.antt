@@ -11,6 +11,7 @@ use lib.Dec.{eqb}
 use borrow.Author.Tests.{eqb-false, ne-eqb}
 use Rattle.pattern.specs.Lists.{In, Distinct, Each}
 use Rattle.pattern.specs.Meaning.{Range, Fragment, fragmentNames, orderingNames, WellFormedRange, WellFormedFragment}
+use Rattle.pattern.proofs.Basics.{in-left, in-right}
 use Rattle.names.specs.Names.{member, insert, insertAll}
 use Rattle.names.proofs.Sets.{member-insert, member-empty}
 use Rattle.layout.specs.Reading.{rangeName}
@@ -18,15 +19,6 @@ use Rattle.layout.proofs.Forms.{AllGood}
 use Rattle.layout.proofs.Parts.{RangeFits, FragmentFits}
 
 -- ---- lists
-
-pub in-left : {A : Type 0} (x : A) (a b : List A) → In x a → In x (a ++ b)
-in-left x [] b h = absurd h
-in-left x (y ∷ a) b (inl e) = inl e
-in-left x (y ∷ a) b (inr h) = inr (in-left x a b h)
-
-pub in-right : {A : Type 0} (x : A) (a b : List A) → In x b → In x (a ++ b)
-in-right x [] b h = h
-in-right x (y ∷ a) b h = inr (in-right x a b h)
 
 pub in-either : {A : Type 0} (x : A) (a b : List A) → In x (a ++ b) → In x a ⊎ In x b
 in-either x [] b h = inr h

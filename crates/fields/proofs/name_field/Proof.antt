@@ -8,11 +8,11 @@ use Rattle.names.specs.Names.{member}
 use Rattle.layout.specs.Reading.{inOrder, nameFault}
 use Rattle.layout.proofs.Values.{name-faultless}
 use Rattle.fields.proofs.Telling.{tested, tested-at, untested, stops-at, some, heard-number}
--- what the code found is the name's fault
 use borrow.Author.Needs.{needs}
 use Rattle.fields.proofs.name_field.Statement.{statement}
 use Rattle.fields.proofs.name_field.Tie as tie
 
+-- what the code found is the name's fault
 found : (outputs : ℕ) (ofQ : Bool) (used n : ℕ) {again wrong : Bool} {k : ℕ} → again ≡ member used n → wrong ≡ (ofQ && not (member outputs n)) → k ≡ inOrder (ltb 63 n) again wrong
     → nameFault outputs ofQ used n ≡ k
 found outputs ofQ used n ea ew ek = sym (ek ∙ rw (ea, ew))

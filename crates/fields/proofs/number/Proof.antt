@@ -8,15 +8,15 @@ use lib.ListN.{getD}
 use Rattle.layout.specs.Form.{number}
 use Rattle.fields.specs.Told.{Value}
 use Rattle.layout.proofs.Fields.{bytes-of, number-small}
--- a number of fewer than eight bytes has room for one more
--- x is the number of the bytes from k on
 use borrow.Author.Needs.{needs}
 use Rattle.fields.proofs.number.Statement.{statement}
 use Rattle.fields.proofs.number.Tie as tie
 
+-- a number of fewer than eight bytes has room for one more
 room : (m : ℕ) {x : ℕ} → x < 256 ^ m → m < 8 → 256 * x + 255 < 2 ^ 64
 room m h l = let p : 256 ^ m ≤ 256 ^ 7 = pow-le-pow-right {n = 256} (omega arith) {i = m} {j = 7} (omega (arith, l)) in omega (arith, h, p)
 
+-- x is the number of the bytes from k on
 abbrev Passed : List ℕ → ℕ → ℕ → ℕ → ℕ → Type 0
 Passed s n at x k = (k ≤ n) × (x ≡ number s (n - k) (at + k))
 

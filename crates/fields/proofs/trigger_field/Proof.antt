@@ -8,11 +8,11 @@ use Rattle.names.specs.Names.{member}
 use Rattle.layout.specs.Reading.{inOrder, triggerFault}
 use Rattle.layout.proofs.Values.{trigger-faultless}
 use Rattle.fields.proofs.Telling.{tested, tested-at, untested, stops-at, some, heard-number}
--- what the code found is the trigger's fault
 use borrow.Author.Needs.{needs}
 use Rattle.fields.proofs.trigger_field.Statement.{statement}
 use Rattle.fields.proofs.trigger_field.Tie as tie
 
+-- what the code found is the trigger's fault
 found : (outputs i : ℕ) {wrong : Bool} {k : ℕ} → wrong ≡ member outputs i → k ≡ inOrder (ltb 63 i) false wrong → triggerFault outputs i ≡ k
 found outputs i ew ek = sym (ek ∙ rw ew)
 

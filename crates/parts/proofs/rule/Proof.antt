@@ -1,7 +1,7 @@
 -- `parts::rule` meets its contract: header, P and Q are read, and the trigger's fragment, where there is a trigger, stands after P's. Assumes nothing.
 use mathlib.Core.Path.{_≡_, refl, sym, ap, _∙_}
 use mathlib.Core.Bool.{true, false}
-use mathlib.Core.List.{List, [], _∷_}
+use mathlib.Core.List.{List}
 use Prim.Native.Nat.{ℕ, zero, suc, _+_, _*_}
 use native.Mathlib.Omega.{arith}
 use lib.ListN.{length, set}
@@ -16,18 +16,14 @@ use Rattle.fields.specs.Told.{Told, right, wrong}
 use Rattle.parts.specs.Shown.{HeaderShown, FragmentsShown, Stored, RuleShown}
 use Rattle.layout.proofs.Values.{ByKind}
 use Rattle.layout.proofs.Fields.{bytes-of}
-use Rattle.layout.proofs.Parts.{header-sound, made, header-of, fragments-length, read-rule}
+use Rattle.layout.proofs.Parts.{header-sound, nothing, made, header-of, fragments-length, read-rule}
 use Rattle.fields.proofs.Telling.{passed, heard}
 use Rattle.parts.proofs.Loops.{fill-append}
--- the trigger's fragment and Q's are the last ones of the round
 use borrow.Author.Needs.{needs}
 use Rattle.parts.proofs.rule.Statement.{statement}
 use Rattle.parts.proofs.rule.Tie as tie
 
-nothing : {A : Type 0} (xs : List A) → length xs ≡ 0 → xs ≡ []
-nothing [] e = refl
-nothing (x ∷ xs) e = absurd (omega (arith, e))
-
+-- the trigger's fragment and Q's are the last ones of the round
 last-ones : (put : List ℕ → ℕ → Fragment → List ℕ) (outputs k n i t : ℕ) (q : List Fragment) (table : List ℕ) (j : ℕ) → ByKind outputs k n i t → length q ≡ n
     → fill put (fill put table j (triggerFragments k i)) j q ≡ fill put table j (lastFragments (kindOf k i q t))
 last-ones put outputs zero n i t q table j b l = rw (nothing q (l ∙ b .0))
