@@ -8,8 +8,8 @@ use lib.ListN.{length, take, drop}
 use lib.Seq.{ext-getD, take-append-seam, drop-append-seam}
 use Rattle.pattern.specs.Meaning.{Range, Join, all, any, Fragment, Kind, once, repeated, timed, Rule}
 use Rattle.pattern.specs.Model.{lastFragments, roundOf, fragmentAt, noFragment}
-use Rattle.sheet.specs.Layout.{Sheet, joinNumber, kindNumber, triggerOf, timeOf, WellFormedSheet}
-use Rattle.sheet.specs.Pages.{noRange, noRule, ruleAt, rangeAt}
+use Rattle.layout.specs.Layout.{Sheet, joinNumber, kindNumber, triggerOf, timeOf, WellFormedSheet}
+use Rattle.layout.specs.Pages.{noRange, noRule, ruleAt, rangeAt}
 use Rattle.book.specs.Books.{bookOf}
 use Rattle.book.specs.Looks.{Looks}
 use Rattle.book.specs.declared.Book.{Book}

@@ -13,9 +13,9 @@ use Rattle.pattern.specs.Lists.{isIn}
 use Rattle.pattern.specs.Meaning.{Range, Fragment, fragmentNames, orderingNames, namesOf, WellFormedRange, WellFormedFragment, WellFormed}
 use Rattle.pattern.specs.Model.{roundOf, fragmentAt, noFragment}
 use Rattle.names.specs.Names.{member}
-use Rattle.sheet.specs.Layout.{Sheet, WellFormedRule, WellFormedSheet}
-use Rattle.sheet.specs.Pages.{fragmentWord, rangeWord, headTable, fragmentTable, rangeTable, noRange, noRule, ruleAt, rangeAt}
-use Rattle.sheet.proofs.PageLaws.{head-at, fragment-at, range-at, round-formed, round-few, each-at}
+use Rattle.layout.specs.Layout.{Sheet, WellFormedRule, WellFormedSheet}
+use Rattle.layout.specs.Pages.{fragmentWord, rangeWord, headTable, fragmentTable, rangeTable, noRange, noRule, ruleAt, rangeAt}
+use Rattle.layout.proofs.PageLaws.{head-at, fragment-at, range-at, round-formed, round-few, each-at}
 use Rattle.book.specs.Words.{cap, nameIn, countIn}
 use Rattle.book.specs.Tables.{fragmentSet, nameTable, ruleSet, ruleTable, maskOf, holderTable, namesFrom, unionFrom}
 use Rattle.book.specs.Books.{bookOf}

@@ -13,8 +13,8 @@ use lib.ListN.{getD, set}
 use borrow.Author.Tests.{ltb-false}
 use Rattle.names.specs.Names.{member, insert, withName}
 use Rattle.names.proofs.Sets.{insert-below}
-use Rattle.sheet.specs.Reading.{byKind}
-use Rattle.sheet.proofs.Values.{with-name}
+use Rattle.layout.specs.Reading.{byKind}
+use Rattle.layout.proofs.Values.{with-name}
 use Rattle.book.specs.Words.{cap, mostRanges, nameIn, kindIn, countPIn, countQIn, roundIn, countIn}
 use Rattle.book.specs.Tables.{stored, namesFrom, unionFrom, maskOf}
 

@@ -3,9 +3,9 @@
 use mathlib.Core.Path.{_≡_, sym, subst}
 use mathlib.Core.List.{List}
 use Prim.Native.Nat.{ℕ}
-use Rattle.sheet.specs.Layout.{Sheet, Bytes}
-use Rattle.sheet.specs.Reading.{accepted, readSheet}
-use Rattle.sheet.proofs.Acceptance.{accepted-is-encoded}
+use Rattle.layout.specs.Layout.{Sheet, Bytes}
+use Rattle.layout.specs.Reading.{accepted, readSheet}
+use Rattle.layout.proofs.Acceptance.{accepted-is-encoded}
 use Rattle.book.specs.Books.{Translates}
 use Rattle.book.specs.Looks.{Looks}
 use Rattle.book.specs.declared.Translation.{Translation}

@@ -8,10 +8,10 @@ use lib.ListN.{length, length-append}
 use borrow.Author.Tests.{le-ltb}
 use Rattle.pattern.specs.Meaning.{Range, Join, all, any, Fragment, Kind, once, repeated, timed, Rule, WellFormedRange, WellFormedFragment, WellFormed}
 use Rattle.pattern.specs.Model.{triggerFragment, lastFragments, roundOf}
-use Rattle.sheet.specs.Layout.{headerOf, joinNumber, kindNumber, inQ, triggerOf, timeOf}
-use Rattle.sheet.specs.Reading.{byKind}
-use Rattle.sheet.specs.Pages.{headerWord, fragmentWord, rangeWord}
-use Rattle.sheet.proofs.PageLaws.{round-few}
+use Rattle.layout.specs.Layout.{headerOf, joinNumber, kindNumber, inQ, triggerOf, timeOf}
+use Rattle.layout.specs.Reading.{byKind}
+use Rattle.layout.specs.Pages.{headerWord, fragmentWord, rangeWord}
+use Rattle.layout.proofs.PageLaws.{round-few}
 use Rattle.book.specs.Words.{cap, kindIn, countPIn, countQIn, triggerIn, timeIn, roundIn, joinIn, countIn, nameIn, lowIn, highIn}
 use Rattle.book.specs.Looks.{LooksHead}
 

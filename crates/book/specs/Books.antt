@@ -3,8 +3,8 @@
 use mathlib.Core.Path.{_≡_}
 use mathlib.Core.List.{List}
 use Prim.Native.Nat.{ℕ}
-use Rattle.sheet.specs.Layout.{Sheet, version}
-use Rattle.sheet.specs.Reading.{accepted, readSheet}
+use Rattle.layout.specs.Layout.{Sheet, version}
+use Rattle.layout.specs.Reading.{accepted, readSheet}
 use Rattle.sheet.specs.Answers.{answerOf, pagesOf}
 use Rattle.sheet.specs.declared.Pages.{Pages}
 use Rattle.book.specs.Tables.{nameTable, ruleTable, holderTable}

@@ -10,8 +10,8 @@ use Rattle.pattern.specs.Lists.{isIn}
 use Rattle.pattern.specs.Meaning.{fragmentNames, Rule, namesOf}
 use Rattle.pattern.specs.Model.{roundOf, fragmentAt}
 use Rattle.names.specs.Names.{member}
-use Rattle.sheet.specs.Layout.{Sheet, joinNumber, kindNumber, inQ, triggerOf, timeOf, version}
-use Rattle.sheet.specs.Pages.{ruleAt, rangeAt}
+use Rattle.layout.specs.Layout.{Sheet, joinNumber, kindNumber, inQ, triggerOf, timeOf, version}
+use Rattle.layout.specs.Pages.{ruleAt, rangeAt}
 use Rattle.book.specs.Words.{kindIn, countPIn, countQIn, triggerIn, timeIn, roundIn, joinIn, countIn, nameIn, lowIn, highIn}
 use Rattle.book.specs.declared.Book.{Book}
 

@@ -3,7 +3,7 @@
 use mathlib.Core.Bool.{cond}
 use Prim.Native.Nat.{ℕ, _+_, _/_, _%_}
 use lib.Dec.{ltb}
-use Rattle.sheet.specs.Reading.{byKind}
+use Rattle.layout.specs.Reading.{byKind}
 
 -- at most so many
 abbrev pub cap : ℕ → ℕ → ℕ

@@ -9,17 +9,17 @@ use denote.Enum.Declared.{tagOf}
 use borrow.Author.Tests.{lt-ltb, le-ltb}
 use Rattle.pattern.specs.Judge.{Oracle, Right}
 use Rattle.pattern.proofs.Oracle.{modelOracle, right-oracle}
-use Rattle.sheet.specs.Layout.{Sheet, Bytes}
-use Rattle.sheet.specs.Reading.{accepted, refused, readSheet}
-use Rattle.sheet.specs.Reading as R
+use Rattle.layout.specs.Layout.{Sheet, Bytes}
+use Rattle.layout.specs.Reading.{accepted, refused, readSheet}
+use Rattle.layout.specs.Reading as R
 use Rattle.sheet.specs.Answers.{answerOf}
 use Rattle.sheet.specs.declared.Answer.the-variants.{Refused}
 use Rattle.sheet.proofs.Answer.{the-type}
-use Rattle.sheet.proofs.Acceptance.{accepted-is-encoded}
+use Rattle.layout.proofs.Acceptance.{accepted-is-encoded}
 use Rattle.book.specs.Books.{Translates}
 use Rattle.book.specs.declared.Translation.{Translation}
 use Rattle.book.proofs.Translated.{translated}
-use Rattle.sheet.proofs.Accepted.{accepted-rules}
+use Rattle.layout.proofs.Accepted.{accepted-rules}
 use Rattle.runner.specs.declared.Outcome.{Outcome}
 use Rattle.runner.specs.Log.{turnedAway}
 use Rattle.runner.specs.Runs.{Runs}

@@ -12,11 +12,11 @@ use lib.ListN.{length}
 use borrow.Author.Tests.{ltb-false, eqb-true}
 use Rattle.pattern.specs.Meaning.{fragmentNames, orderingNames}
 use Rattle.names.specs.Names.{insertAll}
-use Rattle.sheet.specs.Layout.{Sheet, Header}
-use Rattle.sheet.specs.Form.{Form, done, _>>=_, ask, Got, got, stopped, next, number, unless, fieldAt, read}
-use Rattle.sheet.specs.Reading.{outside, dueZero, noFault, byKind, triggerFault, nameFault, below, several, rangeName, triggerSet, range, ranges, fragment, fragments, header, rule, rules, sheet, markFault, versionFault, rulesFault, accepted, refused, atEnd, readSheet}
-use Rattle.sheet.specs.Reading as R
-use Rattle.sheet.proofs.Forms.{read-bind}
+use Rattle.layout.specs.Layout.{Sheet, Header}
+use Rattle.layout.specs.Form.{Form, done, _>>=_, ask, Got, got, stopped, next, number, unless, fieldAt, read}
+use Rattle.layout.specs.Reading.{outside, dueZero, noFault, byKind, triggerFault, nameFault, below, several, rangeName, triggerSet, range, ranges, fragment, fragments, header, rule, rules, sheet, markFault, versionFault, rulesFault, accepted, refused, atEnd, readSheet}
+use Rattle.layout.specs.Reading as R
+use Rattle.layout.proofs.Forms.{read-bind}
 
 -- ---- how far a form is read
 

@@ -6,7 +6,7 @@ use native.Mathlib.Numerals.{add-one}
 use native.Mathlib.Omega.{arith}
 use lib.ListN.{length, drop, set, length-append, length-set}
 use lib.Seq.{set-append-seam}
-use Rattle.sheet.specs.Layout.{le}
+use Rattle.layout.specs.Layout.{le}
 use Rattle.runner.specs.declared.Outcome.{Outcome}
 use Rattle.host.specs.Host.{twelve, stored}
 

@@ -7,9 +7,9 @@ use Prim.Native.Nat.{ℕ, suc}
 use lib.Dec.{ltb}
 use lib.ListN.{length, drop, set}
 use Rattle.pattern.specs.Judge.{Oracle, Right}
-use Rattle.sheet.specs.Layout.{Sheet, le}
-use Rattle.sheet.specs.Reading.{accepted, refused, readSheet}
-use Rattle.sheet.specs.Reading as R
+use Rattle.layout.specs.Layout.{Sheet, le}
+use Rattle.layout.specs.Reading.{accepted, refused, readSheet}
+use Rattle.layout.specs.Reading as R
 use Rattle.runner.specs.declared.Outcome.{Outcome}
 use Rattle.runner.specs.Log.{turnedAway, runOf}
 

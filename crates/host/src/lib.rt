@@ -4,7 +4,7 @@ ghost use mathlib.Core.Path.{_≡_};
 ghost use Prim.Native.Nat.{_+_, _≤_};
 ghost use mathlib.Core.List.{_++_};
 ghost use lib.ListN.{length, drop};
-ghost use Rattle.sheet.specs.Layout.{le};
+ghost use Rattle.layout.specs.Layout.{le};
 ghost use Rattle.host.specs.Host.{Outcomes, Calls, twelve, stored};
 use runner::Outcome;
 

@@ -22,11 +22,11 @@ use Rattle.pattern.proofs.Basics.{is-true}
 use Rattle.pattern.proofs.Oracle.{modelOracle, right-oracle}
 use Rattle.pattern.proofs.Tracks.{fresh-at-rest}
 use Rattle.pattern.proofs.Agreement.{fresh-follows}
-use Rattle.sheet.specs.Layout.{Sheet, WellFormedSheet, Bytes}
-use Rattle.sheet.specs.Pages.{ruleAt}
-use Rattle.sheet.specs.Reading.{accepted, readSheet}
-use Rattle.sheet.proofs.Acceptance.{accepted-is-encoded}
-use Rattle.sheet.proofs.Accepted.{rules-formed}
+use Rattle.layout.specs.Layout.{Sheet, WellFormedSheet, Bytes}
+use Rattle.layout.specs.Pages.{ruleAt}
+use Rattle.layout.specs.Reading.{accepted, readSheet}
+use Rattle.layout.proofs.Acceptance.{accepted-is-encoded}
+use Rattle.layout.proofs.Accepted.{rules-formed}
 use Rattle.book.specs.Words.{countIn}
 use Rattle.book.specs.Books.{Translates}
 use Rattle.book.specs.Looks.{Looks}

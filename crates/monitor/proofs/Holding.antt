@@ -11,9 +11,9 @@ use Rattle.pattern.specs.Meaning.{Range, Join, all, any, Fragment, fragmentName
 use Rattle.pattern.specs.Model.{roundOf, fragmentAt, noFragment}
 use Rattle.pattern.specs.Numbers.{joinOf}
 use Rattle.pattern.proofs.Basics.{distinct-left, distinct-right}
-use Rattle.sheet.specs.Layout.{Sheet, WellFormedSheet, WellFormedRule, joinNumber}
-use Rattle.sheet.specs.Pages.{ruleAt, noRule, noRange}
-use Rattle.sheet.proofs.PageLaws.{each-at, round-few}
+use Rattle.layout.specs.Layout.{Sheet, WellFormedSheet, WellFormedRule, joinNumber}
+use Rattle.layout.specs.Pages.{ruleAt, noRule, noRange}
+use Rattle.layout.proofs.PageLaws.{each-at, round-few}
 use Rattle.book.specs.Looks.{Looks, LooksFragment}
 use Rattle.book.specs.declared.Book.{Book}
 use Rattle.book.proofs.SetLaws.{round-names}

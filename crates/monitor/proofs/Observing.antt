@@ -21,9 +21,9 @@ use Rattle.pattern.proofs.Basics.{zero-one}
 use Rattle.pattern.proofs.Oracle.{modelOracle, right-oracle, one-turn}
 use Rattle.pattern.proofs.Agreement.{together}
 use Rattle.pattern.proofs.Agreement as A
-use Rattle.sheet.specs.Layout.{Sheet, WellFormedSheet}
-use Rattle.sheet.specs.Pages.{ruleAt}
-use Rattle.sheet.proofs.Accepted.{rules-formed}
+use Rattle.layout.specs.Layout.{Sheet, WellFormedSheet}
+use Rattle.layout.specs.Pages.{ruleAt}
+use Rattle.layout.proofs.Accepted.{rules-formed}
 use Rattle.book.specs.Looks.{Looks}
 use Rattle.book.specs.declared.Book.{Book}
 use Rattle.masks.proofs.Statuses.{member-mask}

@@ -16,7 +16,7 @@ use Rattle.pattern.specs.Judge.{mask}
 use Rattle.pattern.specs.Judge as J
 use Rattle.pattern.specs.Model.{statusAt, afterAll, statuses, step}
 use Rattle.pattern.specs.Model as M
-use Rattle.sheet.specs.Pages.{ruleAt}
+use Rattle.layout.specs.Pages.{ruleAt}
 use Rattle.masks.specs.Masks.{maskN}
 use Rattle.masks.proofs.Members.{same-members, maskN-below, member-maskN, member-maskN-past}
 use Rattle.masks.proofs.Statuses.{member-mask, mask-below, member-mask-past}

@@ -13,8 +13,8 @@ use Rattle.pattern.specs.Judge as J
 use Rattle.pattern.specs.Model.{statuses}
 use Rattle.pattern.specs.Model as M
 use Rattle.pattern.proofs.Agreement as A
-use Rattle.sheet.specs.Layout.{Sheet, WellFormedSheet}
-use Rattle.sheet.specs.Pages.{ruleAt}
+use Rattle.layout.specs.Layout.{Sheet, WellFormedSheet}
+use Rattle.layout.specs.Pages.{ruleAt}
 use Rattle.book.specs.Looks.{Looks}
 use Rattle.book.specs.declared.Book.{Book}
 use Rattle.step.specs.Decode.{decode}

@@ -9,7 +9,7 @@ use native.Mathlib.Numerals.{add-one}
 use native.Mathlib.Omega.{arith}
 use lib.ListN.{length}
 use Rattle.pattern.specs.Judge.{Oracle, Right, Kept, nothing, judge}
-use Rattle.sheet.specs.Layout.{Sheet, WellFormedSheet}
+use Rattle.layout.specs.Layout.{Sheet, WellFormedSheet}
 use Rattle.book.specs.Looks.{Looks}
 use Rattle.book.specs.declared.Book.{Book}
 use Rattle.monitor.specs.declared.Observation.{Observation}

@@ -9,8 +9,8 @@ use lib.ListN.{getD}
 use denote.Enum.Declared.{tagOf}
 use Rattle.pattern.specs.Judge.{Verdict, allWhole, Oracle, Right, Kept, judge}
 use Rattle.pattern.specs.Judge as J
-use Rattle.sheet.specs.Form.{number}
-use Rattle.sheet.specs.Layout.{Sheet}
+use Rattle.layout.specs.Form.{number}
+use Rattle.layout.specs.Layout.{Sheet}
 use Rattle.book.specs.declared.Book.{Book}
 use Rattle.words.specs.Words.{heldBy}
 use Rattle.monitor.specs.declared.Observation.{Observation}

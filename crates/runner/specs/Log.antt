@@ -6,7 +6,7 @@ use Prim.Native.Nat.{ℕ, zero, suc, _+_, _*_, _/_, _%_, min}
 use lib.Dec.{ltb, eqb}
 use lib.ListN.{length, getD}
 use Rattle.pattern.specs.Judge.{Observation, event, clock, Oracle, Verdict, allWhole, someOpen, brokenAt, Answer, verdict, refused, Kept, nothing, Turn, judge}
-use Rattle.sheet.specs.Form.{number}
+use Rattle.layout.specs.Form.{number}
 use Rattle.runner.specs.declared.Outcome.{Outcome}
 
 -- ---- records

@@ -6,7 +6,7 @@ use mathlib.Core.List.{List}
 use Prim.Native.Nat.{ℕ}
 use Rattle.pattern.specs.Judge.{Oracle, Right, Kept, nothing, judge}
 use Rattle.pattern.specs.Judge as J
-use Rattle.sheet.specs.Layout.{Sheet, WellFormedSheet}
+use Rattle.layout.specs.Layout.{Sheet, WellFormedSheet}
 use Rattle.book.specs.Looks.{Looks}
 use Rattle.book.specs.declared.Book.{Book}
 use Rattle.words.specs.Words.{heldBy}

@@ -7,7 +7,7 @@ ghost use lib.ListN.{length};
 ghost use Rattle.pattern.specs.Judge.{allWhole, someOpen, brokenAt};
 ghost use Rattle.words.specs.Words.{heldBy};
 ghost use Rattle.monitor.specs.Promise.{seen, verdictIn};
-ghost use Rattle.sheet.specs.Form.{number};
+ghost use Rattle.layout.specs.Form.{number};
 ghost use Rattle.runner.specs.Log.{observation, recordFrom, ended, openMask, refusedAt, turnedAway};
 ghost use Rattle.runner.specs.Runs.{Runs, Plays, TurnsLent, endedIn};
 use monitor::Answer;

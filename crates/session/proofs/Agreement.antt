@@ -4,8 +4,8 @@ use mathlib.Core.Path.{_≡_, refl, _∙_, ap}
 use mathlib.Core.List.{List}
 use Prim.Native.Nat.{ℕ}
 use Rattle.pattern.specs.Judge as J
-use Rattle.sheet.specs.Layout.{Sheet, Bytes}
-use Rattle.sheet.specs.Reading.{accepted, readSheet}
+use Rattle.layout.specs.Layout.{Sheet, Bytes}
+use Rattle.layout.specs.Reading.{accepted, readSheet}
 use Rattle.book.specs.declared.Book.{Book}
 use Rattle.monitor.specs.Promise.{Lends, Freshes, Run, done, more, CodeAgreement}
 use Rattle.monitor.specs.declared.Monitor.{Monitor}

@@ -6,7 +6,7 @@ use Prim.Native.Nat.{ℕ}
 use lib.ListN.{length}
 use Rattle.pattern.specs.Judge.{Oracle, Right, nothing, judgeKeeps}
 use Rattle.pattern.specs.Judge as J
-use Rattle.sheet.specs.Layout.{Sheet}
+use Rattle.layout.specs.Layout.{Sheet}
 use Rattle.book.specs.Books.{Translates}
 use Rattle.book.specs.declared.Book.{Book}
 use Rattle.words.specs.Words.{heldBy}

@@ -4,9 +4,9 @@ use mathlib.Core.Path.{_≡_}
 use mathlib.Core.List.{List}
 use Prim.Native.Nat.{ℕ}
 use lib.ListN.{length}
-use Rattle.sheet.specs.Layout.{Sheet}
-use Rattle.sheet.specs.Reading.{Outcome, accepted, refused, readSheet}
-use Rattle.sheet.specs.Pages.{headTable, fragmentTable, rangeTable}
+use Rattle.layout.specs.Layout.{Sheet}
+use Rattle.layout.specs.Reading.{Outcome, accepted, refused, readSheet}
+use Rattle.layout.specs.Pages.{headTable, fragmentTable, rangeTable}
 use Rattle.sheet.specs.declared.Pages.{Pages}
 use Rattle.sheet.specs.declared.Reading.{Reading}
 use Rattle.sheet.specs.declared.Answer.{Answer}

@@ -1,7 +1,2 @@
-pub mod Layout
-pub mod Form
-pub mod Reading
-pub mod Examples
-pub mod Pages
-pub mod Told
+pub mod Shown
 pub mod Answers

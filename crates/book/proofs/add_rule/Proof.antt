@@ -1,7 +1,7 @@
 -- `book::add_rule` meets its contract. Assumes nothing.
 use mathlib.Core.Path.{_∙_, sym}
 use native.Mathlib.Omega.{arith}
-use Rattle.sheet.proofs.Values.{with-name}
+use Rattle.layout.proofs.Values.{with-name}
 use borrow.Author.Needs.{needs}
 use Rattle.book.proofs.add_rule.Statement.{statement}
 use Rattle.book.proofs.add_rule.Tie as tie

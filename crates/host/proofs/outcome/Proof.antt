@@ -1,7 +1,7 @@
 -- `host::outcome` keeps its promise, by the reader's answer. The place of a refusal fits a u32, however long the sheet is. Assumes nothing.
 use mathlib.Core.Path.{refl}
 use native.Mathlib.Omega.{arith}
-use Rattle.sheet.proofs.Fields.{bytes-of}
+use Rattle.layout.proofs.Fields.{bytes-of}
 use Rattle.host.proofs.Outcomes.{place-fits, sheet-refused, sheet-accepted}
 use borrow.Author.Needs.{needs}
 use Rattle.host.proofs.outcome.Statement.{statement}

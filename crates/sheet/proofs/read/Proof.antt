@@ -5,15 +5,15 @@ use Prim.Native.Nat.{ℕ, _≤_, _<_}
 use native.Mathlib.Omega.{arith}
 use lib.ListN.{length, replicate}
 use borrow.Author.Tests.{lt-ltb, le-ltb}
-use Rattle.sheet.specs.Layout.{Sheet}
-use Rattle.sheet.specs.Form.{got, stopped, read}
-use Rattle.sheet.specs.Reading.{sheet, Outcome, accepted, refused, readSheet}
-use Rattle.sheet.specs.Pages.{headTable, fragmentTable, rangeTable}
-use Rattle.sheet.specs.Told.{SheetShown}
+use Rattle.layout.specs.Layout.{Sheet}
+use Rattle.layout.specs.Form.{got, stopped, read}
+use Rattle.layout.specs.Reading.{sheet, Outcome, accepted, refused, readSheet}
+use Rattle.layout.specs.Pages.{headTable, fragmentTable, rangeTable}
+use Rattle.sheet.specs.Shown.{SheetShown}
 use Rattle.sheet.specs.Answers.{answerOf, pagesOf, Reads}
 use Rattle.sheet.specs.declared.Pages.{Pages}
 use Rattle.sheet.specs.declared.Answer.the-variants.{Accepted, Refused}
-use Rattle.sheet.proofs.Telling.{heard, heard-stop}
+use Rattle.fields.proofs.Telling.{heard, heard-stop}
 use borrow.Author.Needs.{needs}
 use Rattle.sheet.proofs.read.Statement.{statement}
 use Rattle.sheet.proofs.read.Tie as tie

@@ -5,12 +5,12 @@ use Prim.Native.Nat.{ℕ}
 use native.Mathlib.Omega.{arith}
 use lib.ListN.{length}
 use Rattle.pattern.specs.Meaning.{Rule}
-use Rattle.sheet.specs.Form.{got, stopped, fieldAt, read}
-use Rattle.sheet.specs.Reading.{markFault, versionFault, noFault, rulesFault, rules, sheet}
-use Rattle.sheet.specs.Told.{right}
-use Rattle.sheet.proofs.Forms.{several-length}
-use Rattle.sheet.proofs.Acceptance.{read-sheet}
-use Rattle.sheet.proofs.Telling.{passed, heard, heard-number}
+use Rattle.layout.specs.Form.{got, stopped, fieldAt, read}
+use Rattle.layout.specs.Reading.{markFault, versionFault, noFault, rulesFault, rules, sheet}
+use Rattle.fields.specs.Told.{right}
+use Rattle.layout.proofs.Forms.{several-length}
+use Rattle.layout.proofs.Acceptance.{read-sheet}
+use Rattle.fields.proofs.Telling.{passed, heard, heard-number}
 use borrow.Author.Needs.{needs}
 use Rattle.sheet.proofs.sheet.Statement.{statement}
 use Rattle.sheet.proofs.sheet.Tie as tie

@@ -1,0 +1,205 @@
+// Reads one field of a sheet (document 01, "Where each refusal is found"). Each function answers what the definition of that field does: fault 0 and the value, or a fault's number,
+// which is document 01's, and its place. An offset that is asked for is at most the end of the bytes, as the callers in `parts` and `sheet` are proved to see to.
+ghost use mathlib.Core.Path.{_≡_};
+ghost use mathlib.Core.Bool.{not, _&&_};
+ghost use Prim.Native.Nat.{_+_, _<_, _≤_};
+ghost use lib.Dec.{ltb};
+ghost use lib.ListN.{length};
+ghost use Rattle.names.specs.Names.{member};
+ghost use Rattle.layout.specs.Form.{number, fieldAt};
+ghost use Rattle.layout.specs.Reading.{nameFault, triggerFault, inOrder, unlike, outside, below, dueZero, noFault, byKind};
+ghost use Rattle.fields.specs.Told.{Told, Value, Within};
+
+// A field: fault 0, its value and the offset after it; or the fault and its place.
+pub struct Found {
+    pub fault: u8,
+    pub at: usize,
+    pub value: u64,
+}
+
+fn wide(x: u8) -> u64
+    ensures { λ r. ⌜ r ≡ x ⌝ }
+{
+    x as u64
+}
+
+// The number of n bytes, little-endian: from the last byte down.
+fn number(s: &[u8], at: usize, n: usize) -> u64
+    requires { ⌜ (at + n ≤ length (now s)) × (n ≤ 8) ⌝ }
+    ensures { λ r. ⌜ Value n r (number (now (s .entry)) n at) ⌝ }
+{
+    let mut x = 0u64;
+    let mut k = n;
+    while 0 < k {
+        k = k - 1;
+        x = 256 * x + wide(s[at + k]);
+    }
+    x
+}
+
+fn stop(fault: u8, at: usize) -> Found
+    ensures { λ r. ⌜ (r .fault ≡ fault) × (r .at ≡ at) ⌝ }
+{
+    Found {
+        fault: fault,
+        at: at,
+        value: 0,
+    }
+}
+
+// A field of n bytes, whatever its value: 1 if it doesn't fit in the bytes left.
+pub fn field(s: &[u8], at: usize, n: usize) -> Found
+    requires { ⌜ (at ≤ length (now s)) × (n ≤ 8) ⌝ }
+    ensures { λ r. ⌜ Told (now (s .entry)) (r .fault) (r .at) (Value n (r .value)) (fieldAt (now (s .entry)) n noFault at) ⌝ }
+{
+    let end = at + n;
+    if s.len() < end {
+        return stop(1, at);
+    }
+    let x = number(s, at, n);
+    Found {
+        fault: 0,
+        at: end,
+        value: x,
+    }
+}
+
+// A field that must have one value: the mark, the version, and where 0 is due.
+pub fn exactly(s: &[u8], at: usize, n: usize, due: u64, fault: u8) -> Found
+    requires { ⌜ (at ≤ length (now s)) × (n ≤ 8) × (0 < fault) ⌝ }
+    ensures { λ r. ⌜ Told (now (s .entry)) (r .fault) (r .at) (Within due due (r .value)) (fieldAt (now (s .entry)) n (unlike fault due) at) ⌝ }
+{
+    let f = field(s, at, n);
+    if f.fault != 0 {
+        return f;
+    }
+    if f.value != due {
+        return stop(fault, at);
+    }
+    f
+}
+
+// A count, a kind or a join, from first to last.
+pub fn between(s: &[u8], at: usize, first: u64, last: u64) -> Found
+    requires { ⌜ at ≤ length (now s) ⌝ }
+    ensures { λ r. ⌜ Told (now (s .entry)) (r .fault) (r .at) (Within first last (r .value)) (fieldAt (now (s .entry)) 1 (outside first last) at) ⌝ }
+{
+    let f = field(s, at, 1);
+    if f.fault != 0 {
+        return f;
+    }
+    if f.value < first {
+        return stop(4, at);
+    }
+    if last < f.value {
+        return stop(4, at);
+    }
+    f
+}
+
+// A range's bound, u or v: u is at least 1, v at least u.
+pub fn bound(s: &[u8], at: usize, least: u64) -> Found
+    requires { ⌜ at ≤ length (now s) ⌝ }
+    ensures { λ r. ⌜ Told (now (s .entry)) (r .fault) (r .at) (Value 2 (r .value)) (fieldAt (now (s .entry)) 2 (below least) at) ⌝ }
+{
+    let f = field(s, at, 2);
+    if f.fault != 0 {
+        return f;
+    }
+    if f.value < least {
+        return stop(7, at);
+    }
+    f
+}
+
+// A name of Q that is an input.
+fn misdirected(outputs: u64, of_q: bool, n: u8) -> bool
+    ensures { λ r. ⌜ r ≡ («of_q» && not (member outputs n)) ⌝ }
+{
+    if of_q {
+        return !names::is_output(outputs, n);
+    }
+    false
+}
+
+// The faults of a name in the order of one field: above 63, already in the rule, of the wrong direction.
+fn in_order(n: u8, again: bool, wrong_way: bool) -> u8
+    ensures { λ r. ⌜ r ≡ inOrder (ltb 63 n) «again» «wrong_way» ⌝ }
+{
+    if 63 < n {
+        return 6;
+    }
+    if again {
+        return 8;
+    }
+    if wrong_way {
+        return 9;
+    }
+    0
+}
+
+// A range's name.
+pub fn name_field(s: &[u8], at: usize, outputs: u64, of_q: bool, used: u64) -> Found
+    requires { ⌜ at ≤ length (now s) ⌝ }
+    ensures { λ r. ⌜ Told (now (s .entry)) (r .fault) (r .at) (Within 0 63 (r .value)) (fieldAt (now (s .entry)) 1 (nameFault outputs «of_q» used) at) ⌝ }
+{
+    let f = field(s, at, 1);
+    if f.fault != 0 {
+        return f;
+    }
+    let n = f.value as u8;
+    let k = in_order(n, names::has(used, n), misdirected(outputs, of_q, n));
+    if k != 0 {
+        return stop(k, at);
+    }
+    f
+}
+
+// The trigger of kinds 0 and 1: a name that is an input. It is the first name of its rule.
+fn trigger_field(s: &[u8], at: usize, outputs: u64) -> Found
+    requires { ⌜ at ≤ length (now s) ⌝ }
+    ensures { λ r. ⌜ Told (now (s .entry)) (r .fault) (r .at) (Within 0 63 (r .value)) (fieldAt (now (s .entry)) 1 (triggerFault outputs) at) ⌝ }
+{
+    let f = field(s, at, 1);
+    if f.fault != 0 {
+        return f;
+    }
+    let i = f.value as u8;
+    let k = in_order(i, false, names::is_output(outputs, i));
+    if k != 0 {
+        return stop(k, at);
+    }
+    f
+}
+
+// ---- the fields of a rule that go by its kind
+
+pub fn q_count(s: &[u8], at: usize, kind: u64) -> Found
+    requires { ⌜ at ≤ length (now s) ⌝ }
+    ensures { λ r. ⌜ Told (now (s .entry)) (r .fault) (r .at) (Within 0 8 (r .value)) (fieldAt (now (s .entry)) 1 (byKind kind (outside 1 8) dueZero) at) ⌝ }
+{
+    if kind == 2 {
+        return between(s, at, 1, 8);
+    }
+    exactly(s, at, 1, 0, 5)
+}
+
+pub fn trigger(s: &[u8], at: usize, kind: u64, outputs: u64) -> Found
+    requires { ⌜ at ≤ length (now s) ⌝ }
+    ensures { λ r. ⌜ Told (now (s .entry)) (r .fault) (r .at) (Within 0 63 (r .value)) (fieldAt (now (s .entry)) 1 (byKind kind dueZero (triggerFault outputs)) at) ⌝ }
+{
+    if kind == 2 {
+        return exactly(s, at, 1, 0, 5);
+    }
+    trigger_field(s, at, outputs)
+}
+
+pub fn time(s: &[u8], at: usize, kind: u64) -> Found
+    requires { ⌜ at ≤ length (now s) ⌝ }
+    ensures { λ r. ⌜ Told (now (s .entry)) (r .fault) (r .at) (Value 4 (r .value)) (fieldAt (now (s .entry)) 4 (byKind kind noFault dueZero) at) ⌝ }
+{
+    if kind == 2 {
+        return field(s, at, 4);
+    }
+    exactly(s, at, 4, 0, 5)
+}

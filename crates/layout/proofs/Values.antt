@@ -1,0 +1,118 @@
+-- The faults of a field's value: a value has none exactly when it is what document 01 asks of it.
+-- Assumes nothing.
+use mathlib.Core.Path.{_≡_, refl}
+use mathlib.Core.Bool.{Bool, true, false, not, _&&_}
+use Prim.Native.Nat.{ℕ, zero, suc, _≤_, _<_, _^_}
+use native.Mathlib.Omega.{arith}
+use lib.Dec.{ltb, eqb}
+use borrow.Author.Tests.{lt-ltb, le-ltb, ltb-false, eqb-true, eq-eqb}
+use Rattle.pattern.specs.Meaning.{Between}
+use Rattle.names.specs.Names.{member, insert, withName}
+use Rattle.layout.specs.Layout.{Input}
+use Rattle.layout.specs.Reading.{_when_or_, noFault, unlike, dueZero, outside, below, inOrder, nameFault, triggerFault, byKind}
+
+pub unlike-faultless : (k due x : ℕ) → unlike (suc k) due x ≡ 0 → x ≡ due
+unlike-faultless k due x = go (eqb x due) refl
+  where
+    go : (b : Bool) → eqb x due ≡ b → (suc k when not b or 0) ≡ 0 → x ≡ due
+    go true e z = eqb-true x due e
+    go false e z = absurd (omega (arith, z))
+
+pub unlike-right : (k x : ℕ) → unlike k x x ≡ 0
+unlike-right k x = rw (eq-eqb x x refl)
+
+pub outside-faultless : (first last x : ℕ) → outside first last x ≡ 0 → Between first last x
+outside-faultless first last x = go (ltb x first) (ltb last x) refl refl
+  where
+    go : (a b : Bool) → ltb x first ≡ a → ltb last x ≡ b → (4 when a or 4 when b or 0) ≡ 0 → Between first last x
+    go true b _ _ z = absurd (omega (arith, z))
+    go false true _ _ z = absurd (omega (arith, z))
+    go false false p q z = (ltb-false x first p, ltb-false last x q)
+
+pub outside-right : (first last x : ℕ) → Between first last x → outside first last x ≡ 0
+outside-right first last x h = rw (le-ltb x first (h .0), le-ltb last x (h .1))
+
+pub below-faultless : (least x : ℕ) → below least x ≡ 0 → least ≤ x
+below-faultless least x = go (ltb x least) refl
+  where
+    go : (b : Bool) → ltb x least ≡ b → (7 when b or 0) ≡ 0 → least ≤ x
+    go true _ z = absurd (omega (arith, z))
+    go false e z = ltb-false x least e
+
+pub below-right : (least x : ℕ) → least ≤ x → below least x ≡ 0
+below-right least x h = rw (le-ltb x least h)
+
+-- no fault in the order of one field: none of the three
+order-faultless : (a b c : Bool) → inOrder a b c ≡ 0 → (a ≡ false) × (b ≡ false) × (c ≡ false)
+order-faultless true b c z = absurd (omega (arith, z))
+order-faultless false true c z = absurd (omega (arith, z))
+order-faultless false false true z = absurd (omega (arith, z))
+order-faultless false false false z = (refl, refl, refl)
+
+-- a name that may come after the names so far, in Q or not
+abbrev pub NameFits : ℕ → Bool → ℕ → ℕ → Type 0
+NameFits outputs ofQ used n = (member used n ≡ false) × ((ofQ && not (member outputs n)) ≡ false)
+
+pub name-faultless : (outputs : ℕ) (ofQ : Bool) (used n : ℕ) → nameFault outputs ofQ used n ≡ 0 → (n ≤ 63) × NameFits outputs ofQ used n
+name-faultless outputs ofQ used n z = let f = order-faultless (ltb 63 n) _ _ z in (ltb-false 63 n (f .0), (f .1, f .2))
+
+pub name-right : (outputs : ℕ) (ofQ : Bool) (used n : ℕ) → n ≤ 63 → NameFits outputs ofQ used n → nameFault outputs ofQ used n ≡ 0
+name-right outputs ofQ used n h f = rw (le-ltb 63 n h, f .0, f .1)
+
+abbrev pub TriggerFits : ℕ → ℕ → Type 0
+TriggerFits outputs i = (i ≤ 63) × Input outputs i
+
+pub trigger-faultless : (outputs i : ℕ) → triggerFault outputs i ≡ 0 → TriggerFits outputs i
+trigger-faultless outputs i z = let f = order-faultless (ltb 63 i) false _ z in (ltb-false 63 i (f .0), f .2)
+
+trigger-right : (outputs i : ℕ) → TriggerFits outputs i → triggerFault outputs i ≡ 0
+trigger-right outputs i h = rw (le-ltb 63 i (h .0), h .1)
+
+-- the fields of a rule that go by its kind: kind, Q count, trigger, t
+abbrev pub ByKind : ℕ → ℕ → ℕ → ℕ → ℕ → Type 0
+ByKind outputs zero n i t = (n ≡ 0) × TriggerFits outputs i × (t ≡ 0)
+ByKind outputs (suc zero) n i t = (n ≡ 0) × TriggerFits outputs i × (t ≡ 0)
+ByKind outputs (suc (suc zero)) n i t = Between 1 8 n × (i ≡ 0) × (t ≤ 4294967295)
+ByKind outputs (suc (suc (suc k))) n i t = ⊥
+
+pub kind-faultless : (outputs k n i t : ℕ) → Between 0 2 k → byKind k (outside 1 8) dueZero n ≡ 0 → byKind k dueZero (triggerFault outputs) i ≡ 0
+    → byKind k noFault dueZero t ≡ 0 → t < 256 ^ 4 → ByKind outputs k n i t
+kind-faultless outputs zero n i t h a b d l = (unlike-faultless 4 0 n a, trigger-faultless outputs i b, unlike-faultless 4 0 t d)
+kind-faultless outputs (suc zero) n i t h a b d l = (unlike-faultless 4 0 n a, trigger-faultless outputs i b, unlike-faultless 4 0 t d)
+kind-faultless outputs (suc (suc zero)) n i t h a b d l = (outside-faultless 1 8 n a, unlike-faultless 4 0 i b, omega (arith, l))
+kind-faultless outputs (suc (suc (suc k))) n i t h a b d l = absurd (omega (arith, h .1))
+
+pub record KindRight (outputs k n i t : ℕ) : Type 0 where
+  pub kind : Between 0 2 k
+  pub countQ : byKind k (outside 1 8) dueZero n ≡ 0
+  pub trigger : byKind k dueZero (triggerFault outputs) i ≡ 0
+  pub time : byKind k noFault dueZero t ≡ 0
+  pub small : (n < 256) × (i < 256) × (t < 256 ^ 4)
+
+pub kind-right : (outputs k n i t : ℕ) → ByKind outputs k n i t → KindRight outputs k n i t
+kind-right outputs zero n i t (a, b, d) = record {
+  kind = omega arith;
+  countQ = rw a;
+  trigger = trigger-right outputs i b;
+  time = rw d;
+  small = omega (arith, a, b .0, d);
+}
+kind-right outputs (suc zero) n i t (a, b, d) = record {
+  kind = omega arith;
+  countQ = rw a;
+  trigger = trigger-right outputs i b;
+  time = rw d;
+  small = omega (arith, a, b .0, d);
+}
+kind-right outputs (suc (suc zero)) n i t (a, b, d) = record {
+  kind = omega arith;
+  countQ = outside-right 1 8 n a;
+  trigger = rw b;
+  time = refl;
+  small = omega (arith, a, b, d);
+}
+kind-right outputs (suc (suc (suc k))) n i t g = absurd g
+
+-- the set with a name of 0 to 63
+pub with-name : (set n : ℕ) → n ≤ 63 → withName set n ≡ insert set n
+with-name set n h = rw (lt-ltb n 64 (omega (arith, h)))

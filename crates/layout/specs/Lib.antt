@@ -1,0 +1,5 @@
+pub mod Layout
+pub mod Form
+pub mod Reading
+pub mod Examples
+pub mod Pages
