@@ -12,6 +12,7 @@ use Rattle.book.specs.Words.{kindIn, countPIn, timeIn, roundIn, joinIn, countIn
 use Rattle.step.specs.declared.RuleState.{RuleState}
 use Rattle.step.specs.declared.Turned.{Turned}
 use Rattle.step.specs.declared.Stepped.{Stepped}
+use Rattle.step.specs.declared.Moved.{Moved}
 use Rattle.step.specs.declared.Plan.{Plan}
 use Rattle.step.specs.Upto.{mapN, foldN}
 
@@ -103,6 +104,16 @@ completeOf g states count = foldN (closesOf g count) 0 (g .size) states true
 unfoldable pub growsOf : Ranges → List ℕ → ℕ → Bool
 growsOf g states count = foldN (takesOf g count) 0 (g .size) states false
 
+-- the two as one question to a range, asked by a class of events: next (2) or other (3) leaves it idle, own (0) is an error to it; and to every range
+unfoldable pub overAt : ℕ → ℕ → ℕ → ℕ → ℕ → Bool
+overAt class s join count word = cond (eqb class 2) (closesAt s join count (lowIn word)) (cond (eqb class 0) (not (takesAt s count (highIn word))) (eqb s 0))
+
+abbrev pub overOf : Ranges → ℕ → ℕ → ℕ → ℕ → Bool → Bool
+overOf g class count i s b = b && overAt class s (g .join) count (wordAt g i)
+
+unfoldable pub allOver : Ranges → ℕ → List ℕ → ℕ → Bool
+allOver g class states count = foldN (overOf g class count) 0 (g .size) states true
+
 -- ---- time
 
 -- after the deadline
@@ -141,6 +152,10 @@ settledOf g p st now = record {
   state = st;
   standing = standingOf p (st .fragment) (completeOf g (st .states) (st .count)) (growsOf g (st .states) (st .count)) (st .end) now;
 }
+
+-- a state whose standing is sure, or else one that has no error
+unfoldable pub stoodOf : Ranges → Plan → Moved → ℕ → Stepped
+stoodOf g p m now = cond (m .sure) (record { state = m .state; standing = m .standing }) (settledOf g p (m .state) now)
 
 -- ---- one rule of the tables
 
