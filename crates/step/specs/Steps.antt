@@ -2,8 +2,8 @@
 -- ranges and names looked up (`proofs/Links` proves that, for the book of a sheet). No promise of an exported call cites it.
 -- Assumes nothing.
 use mathlib.Core.Bool.{Bool, true, false, cond, not, _&&_, _||_}
-use mathlib.Core.List.{List}
-use Prim.Native.Nat.{ℕ, _+_, _*_, _%_}
+use mathlib.Core.List.{List, [], _∷_}
+use Prim.Native.Nat.{ℕ, zero, suc, _+_, _*_, _/_, _%_}
 use lib.Dec.{leb, ltb, eqb}
 use lib.ListN.{getD, replicate}
 use Rattle.names.specs.Names.{member}
@@ -74,6 +74,11 @@ begunOf g name i s = begunAt name (nameIn (wordAt g i))
 
 unfoldable pub begunStates : Ranges → ℕ → List ℕ
 begunStates g name = mapN (begunOf g name) 0 (g .size) zeros
+
+-- the n bytes of a word, the lowest first
+abbrev pub digits : ℕ → ℕ → List ℕ
+digits zero w = []
+digits (suc n) w = w % 256 ∷ digits n (w / 256)
 
 -- where no event has come
 abbrev pub unbegunOf : ℕ → ℕ → ℕ

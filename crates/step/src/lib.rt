@@ -6,7 +6,7 @@ ghost use Prim.Native.Nat.{_+_, _*_, _%_, _<_, _≤_};
 ghost use lib.Dec.{leb, eqb};
 ghost use lib.ListN.{getD};
 ghost use Rattle.names.specs.Names.{member};
-ghost use Rattle.step.specs.Steps.{classAt, countAt, turnOf, begunAt, begunStates, freshStates, closesAt, takesAt, overAt, allOver, growsOf, completeOf, pastOf, followsOf, endOf, seenOf, dueOf, runsOf, settledOf, planOf, rangesOf, stoodOf, beginOf, stayOf, actOf};
+ghost use Rattle.step.specs.Steps.{classAt, countAt, turnOf, begunAt, begunStates, digits, freshStates, closesAt, takesAt, overAt, allOver, growsOf, completeOf, pastOf, followsOf, endOf, seenOf, dueOf, runsOf, settledOf, planOf, rangesOf, stoodOf, beginOf, stayOf, actOf};
 
 // "The monitor's state holds, for each rule, its fragment number, eight recogniser states, one count and the end time of P."
 pub struct RuleState {
@@ -140,18 +140,41 @@ fn begun(name: u8, own: u8) -> u8
     2
 }
 
-// The states after the first event of a fragment.
+// Eight states from one word, the first from its lowest byte.
+fn spread(word: u64) -> [u8; 8]
+    ensures { λ r. ⌜ r ≡ digits 8 word ⌝ }
+{
+    let w1 = word / 256;
+    let w2 = w1 / 256;
+    let w3 = w2 / 256;
+    let w4 = w3 / 256;
+    let w5 = w4 / 256;
+    let w6 = w5 / 256;
+    let w7 = w6 / 256;
+    [
+        (word % 256) as u8,
+        (w1 % 256) as u8,
+        (w2 % 256) as u8,
+        (w3 % 256) as u8,
+        (w4 % 256) as u8,
+        (w5 % 256) as u8,
+        (w6 % 256) as u8,
+        (w7 % 256) as u8,
+    ]
+}
+
+// The states after the first event of a fragment. From the last range to the first they are put into one word: that costs less than an array written byte by byte.
 fn begun_states(ranges: &[u64; 2048], base: usize, size: usize, join: u8, name: u8) -> [u8; 8]
     requires { ⌜ (base ≤ 2040) × (size ≤ 8) ⌝ }
     ensures { λ r. ⌜ r ≡ begunStates (record { words = now (ranges .entry); base = base; size = size; join = join }) name ⌝ }
 {
-    let mut x = [0u8; 8];
-    let mut i = 0usize;
-    while i < size {
-        x[i] = begun(name, book::name(ranges[base + i]));
-        i = i + 1;
+    let mut word = 0u64;
+    let mut i = size;
+    while 0 < i {
+        i = i - 1;
+        word = 256 * word + begun(name, book::name(ranges[base + i])) as u64;
     }
-    x
+    spread(word)
 }
 
 // The states where no event of the fragment has come: eight at most, whatever the number.
