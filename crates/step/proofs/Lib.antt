@@ -1,5 +1,6 @@
 mod Loops
-mod Acts
 pub mod Slots
+mod Ending
+mod Acts
 pub mod Status
 pub mod Links

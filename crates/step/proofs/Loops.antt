@@ -1,18 +1,18 @@
 -- The loops over a fragment's ranges: what each has after i of them, one turn more, and the end. The laws `mapN-more` and `foldN-more` serve all.
 -- Assumes nothing.
-use mathlib.Core.Path.{_≡_, refl, ap, _∙_}
-use mathlib.Core.Bool.{Bool, true, false, _&&_, _||_}
+use mathlib.Core.Path.{_≡_, refl, sym, ap, _∙_}
+use mathlib.Core.Bool.{Bool, true, false, cond, _&&_, _||_}
 use mathlib.Core.List.{List, [], _∷_}
-use Prim.Native.Nat.{ℕ, zero, suc, _+_, _<_, _≤_}
-use native.Mathlib.Nat.{le-of-suc-le-suc, not-suc-le-zero}
+use Prim.Native.Nat.{ℕ, zero, suc, _+_, _*_, _-_, _/_, _%_, _^_, _<_, _≤_}
+use native.Mathlib.Nat.{le-of-suc-le-suc, not-suc-le-zero, lt-of-lt-of-le, pow-suc, pow-le-pow-right}
 use native.Mathlib.Omega.{arith}
 use lib.Dec.{eqb}
-use lib.ListN.{length, getD, set}
+use lib.ListN.{length, getD, set, replicate}
 use Rattle.pattern.specs.Numbers.{nextState}
 use Rattle.book.specs.Words.{nameIn, lowIn, highIn}
 use Rattle.step.specs.declared.RuleState.{RuleState}
 use Rattle.step.specs.Upto.{mapN, foldN, mapN-more, foldN-more}
-use Rattle.step.specs.Steps.{Ranges, wordAt, classAt, countAt, moveOf, countOf, badOf, idleOf, turnOf, unbegunOf, freshStates, zeros}
+use Rattle.step.specs.Steps.{Ranges, wordAt, classAt, countAt, moveOf, countOf, badOf, idleOf, turnOf, begunAt, begunOf, begunStates, digits, unbegunOf, freshStates, zeros}
 
 -- ---- the elements changed, and a value gathered
 
@@ -64,6 +64,61 @@ module _ (g : Ranges) (name seen : ℕ) (st : RuleState) where
   pub turning-end : {x : List ℕ} {count i : ℕ} {bad idle : Bool} → Turning x count bad idle i → g .size ≤ i → record { states = x; count = count; bad = bad; idle = idle } ≡ turnOf g name seen st
   unfolding turnOf
   turning-end t h = rw (mapping-end _ _ _ (t .states) h, gathering-end _ _ _ _ (t .counts) h, gathering-end _ _ _ _ (t .bads) h, gathering-end _ _ _ _ (t .idles) h)
+
+-- ---- the states of a fragment that begins, gathered into a word from the last to the first
+
+begun-small : (name own : ℕ) → begunAt name own < 256
+unfolding begunAt
+begun-small name own = look (eqb name own)
+  where
+    look : (b : Bool) → cond b 3 2 < 256
+    look true = omega arith
+    look false = omega arith
+
+mapN-none : (f : ℕ → ℕ → ℕ) (k n : ℕ) → mapN f k n [] ≡ []
+mapN-none f k zero = refl
+mapN-none f k (suc n) = refl
+
+digits-zero : (m : ℕ) → digits m 0 ≡ replicate m 0
+digits-zero zero = refl
+digits-zero (suc m) = ap (λ (l : List ℕ). 0 ∷ l) (digits-zero m)
+
+module _ (g : Ranges) (name : ℕ) where
+  pub record Packing (word i : ℕ) : Type 0 where
+    pub within : i ≤ g .size
+    pub small : word < 256 ^ (g .size - i)
+    pub soFar : (m : ℕ) → digits m word ≡ mapN (begunOf g name) i (g .size - i) (replicate m 0)
+
+  pub packing-fits : {word i : ℕ} → Packing word i → g .size ≤ 8 → 0 < i → word < 72057594037927936
+  packing-fits {word} {i} p few h =
+      let z : 0 < 256 = omega arith in
+      let n : g .size - i ≤ 7 = omega arith in
+      lt-of-lt-of-le (p .small) (pow-le-pow-right z n)
+
+  pub packing-none : Packing 0 (g .size)
+  packing-none = let e : g .size - g .size ≡ 0 = omega arith in record { within = omega arith; small = rw e (omega arith); soFar = λ m. rw e (digits-zero m) }
+
+  pub packing-more : {word i j b : ℕ} → Packing word i → i ≡ suc j → b ≡ begunAt name (nameIn (wordAt g j)) → Packing (256 * word + b) j
+  packing-more {word} {i} {j} {b} p ei eb =
+      let byte : b < 256 = rw eb (begun-small name (nameIn (wordAt g j))) in
+      let left : g .size - j ≡ suc (g .size - i) = omega (arith, p .within) in
+      record { within = omega (arith, p .within); small = rw (left, pow-suc) (omega (arith, p .small)); soFar = more }
+    where
+      more : (m : ℕ) → digits m (256 * word + b) ≡ mapN (begunOf g name) j (g .size - j) (replicate m 0)
+      more zero = sym (mapN-none (begunOf g name) j (g .size - j))
+      more (suc m) =
+          let byte : b < 256 = rw eb (begun-small name (nameIn (wordAt g j))) in
+          let lowest : (256 * word + b) % 256 ≡ b = omega arith in
+          let rest : (256 * word + b) / 256 ≡ word = omega arith in
+          let left : g .size - j ≡ suc (g .size - i) = omega (arith, p .within) in
+          rw (lowest, rest, left, p .soFar m, ei, eb)
+
+  pub packing-end : {word i : ℕ} → Packing word i → i ≤ 0 → digits 8 word ≡ begunStates g name
+  unfolding begunStates
+  packing-end {word} {i} p h =
+      let e : i ≡ 0 = omega arith in
+      let all : g .size - i ≡ g .size = omega arith in
+      p .soFar 8 ∙ rw (all, e)
 
 -- ---- a number past the list's end changes no more than its elements
 

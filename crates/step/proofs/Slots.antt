@@ -71,7 +71,7 @@ module _ (t : State → Bool) (j : Join) (cl : Range → Class) (count : ℕ) wh
   any-moved (r ∷ rs) (s ∷ ss) = ap (λ (b : Bool). t (move j r count s (cl r)) || b) (any-moved rs ss)
 
 -- the numbers of states
-idle-number : (s : State) → eqb (stateNumber s) 0 ≡ isIdle s
+pub idle-number : (s : State) → eqb (stateNumber s) 0 ≡ isIdle s
 idle-number idle = refl
 idle-number unbegun = refl
 idle-number waiting = refl
@@ -114,7 +114,7 @@ module _ (g : Ranges) (name seen count : ℕ) (cl : Range → Class) (sees : (wo
 
 -- ---- complete, and able to grow
 
-closes-is : (s join n count u v : ℕ) → closesAt s join count u ≡ isIdle (move (joinOf join) (record { name = n; u = u; v = v }) count (stateOf s) next)
+pub closes-is : (s join n count u v : ℕ) → closesAt s join count u ≡ isIdle (move (joinOf join) (record { name = n; u = u; v = v }) count (stateOf s) next)
 unfolding closesAt
 closes-is zero join n count u v = refl
 closes-is (suc zero) join n count u v = refl

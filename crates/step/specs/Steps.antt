@@ -2,8 +2,8 @@
 -- ranges and names looked up (`proofs/Links` proves that, for the book of a sheet). No promise of an exported call cites it.
 -- Assumes nothing.
 use mathlib.Core.Bool.{Bool, true, false, cond, not, _&&_, _||_}
-use mathlib.Core.List.{List}
-use Prim.Native.Nat.{ℕ, _+_, _*_, _%_}
+use mathlib.Core.List.{List, [], _∷_}
+use Prim.Native.Nat.{ℕ, zero, suc, _+_, _*_, _/_, _%_}
 use lib.Dec.{leb, ltb, eqb}
 use lib.ListN.{getD, replicate}
 use Rattle.names.specs.Names.{member}
@@ -12,6 +12,7 @@ use Rattle.book.specs.Words.{kindIn, countPIn, timeIn, roundIn, joinIn, countIn
 use Rattle.step.specs.declared.RuleState.{RuleState}
 use Rattle.step.specs.declared.Turned.{Turned}
 use Rattle.step.specs.declared.Stepped.{Stepped}
+use Rattle.step.specs.declared.Moved.{Moved}
 use Rattle.step.specs.declared.Plan.{Plan}
 use Rattle.step.specs.Upto.{mapN, foldN}
 
@@ -74,6 +75,11 @@ begunOf g name i s = begunAt name (nameIn (wordAt g i))
 unfoldable pub begunStates : Ranges → ℕ → List ℕ
 begunStates g name = mapN (begunOf g name) 0 (g .size) zeros
 
+-- the n bytes of a word, the lowest first
+abbrev pub digits : ℕ → ℕ → List ℕ
+digits zero w = []
+digits (suc n) w = w % 256 ∷ digits n (w / 256)
+
 -- where no event has come
 abbrev pub unbegunOf : ℕ → ℕ → ℕ
 unbegunOf i s = 1
@@ -102,6 +108,16 @@ completeOf g states count = foldN (closesOf g count) 0 (g .size) states true
 
 unfoldable pub growsOf : Ranges → List ℕ → ℕ → Bool
 growsOf g states count = foldN (takesOf g count) 0 (g .size) states false
+
+-- the two as one question to a range, asked by a class of events: next (2) or other (3) leaves it idle, own (0) is an error to it; and to every range
+unfoldable pub overAt : ℕ → ℕ → ℕ → ℕ → ℕ → Bool
+overAt class s join count word = cond (eqb class 2) (closesAt s join count (lowIn word)) (cond (eqb class 0) (not (takesAt s count (highIn word))) (eqb s 0))
+
+abbrev pub overOf : Ranges → ℕ → ℕ → ℕ → ℕ → Bool → Bool
+overOf g class count i s b = b && overAt class s (g .join) count (wordAt g i)
+
+unfoldable pub allOver : Ranges → ℕ → List ℕ → ℕ → Bool
+allOver g class states count = foldN (overOf g class count) 0 (g .size) states true
 
 -- ---- time
 
@@ -141,6 +157,10 @@ settledOf g p st now = record {
   state = st;
   standing = standingOf p (st .fragment) (completeOf g (st .states) (st .count)) (growsOf g (st .states) (st .count)) (st .end) now;
 }
+
+-- a state whose standing is sure, or else one that has no error
+unfoldable pub stoodOf : Ranges → Plan → Moved → ℕ → Stepped
+stoodOf g p m now = cond (m .sure) (record { state = m .state; standing = m .standing }) (settledOf g p (m .state) now)
 
 -- ---- one rule of the tables
 

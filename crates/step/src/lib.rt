@@ -1,10 +1,12 @@
 // One rule of a book at an event (document 01, "The recogniser of a range"): the rule's state by value, the book's arrays lent by reference.
 // An index that comes from a table or a state is reduced by a remainder, so that nothing is asked of either.
 ghost use mathlib.Core.Path.{_≡_};
-ghost use mathlib.Core.Bool.{_&&_, _||_};
-ghost use Prim.Native.Nat.{_%_, _<_, _≤_};
+ghost use mathlib.Core.Bool.{false, not, _&&_, _||_};
+ghost use Prim.Native.Nat.{_+_, _*_, _%_, _<_, _≤_};
 ghost use lib.Dec.{leb, eqb};
-ghost use Rattle.step.specs.Steps.{classAt, countAt, turnOf, begunAt, begunStates, freshStates, closesAt, takesAt, completeOf, growsOf, pastOf, followsOf, endOf, seenOf, dueOf, runsOf, standingOf, settledOf, planOf, beginOf, stayOf, actOf};
+ghost use lib.ListN.{getD};
+ghost use Rattle.names.specs.Names.{member};
+ghost use Rattle.step.specs.Steps.{classAt, countAt, turnOf, begunAt, begunStates, digits, freshStates, closesAt, takesAt, overAt, allOver, growsOf, completeOf, pastOf, followsOf, endOf, seenOf, dueOf, runsOf, settledOf, planOf, rangesOf, stoodOf, beginOf, stayOf, actOf};
 
 // "The monitor's state holds, for each rule, its fragment number, eight recogniser states, one count and the end time of P."
 pub struct RuleState {
@@ -33,6 +35,13 @@ pub struct Turned {
 // A rule's state after an event, and how the rule stands: 0 whole, 1 open, 2 open and a deadline runs, 3 broken.
 pub struct Stepped {
     pub state: RuleState,
+    pub standing: u8,
+}
+
+// A rule's state after an event. Where the event alone decides how the rule stands, as a trigger of kind 0 or an error does, that is sure; else it is asked of the state.
+pub struct Moved {
+    pub state: RuleState,
+    pub sure: bool,
     pub standing: u8,
 }
 
@@ -84,7 +93,7 @@ fn and(a: bool, b: bool) -> bool
     false
 }
 
-// One event moves every range of the fragment.
+// One event moves every range of the fragment. Whether all are idle is part of it; no code reads that, as `all_over` tells it without a move.
 fn turn(
     ranges: &[u64; 2048],
     base: usize,
@@ -131,18 +140,41 @@ fn begun(name: u8, own: u8) -> u8
     2
 }
 
-// The states after the first event of a fragment.
+// Eight states from one word, the first from its lowest byte.
+fn spread(word: u64) -> [u8; 8]
+    ensures { λ r. ⌜ r ≡ digits 8 word ⌝ }
+{
+    let w1 = word / 256;
+    let w2 = w1 / 256;
+    let w3 = w2 / 256;
+    let w4 = w3 / 256;
+    let w5 = w4 / 256;
+    let w6 = w5 / 256;
+    let w7 = w6 / 256;
+    [
+        (word % 256) as u8,
+        (w1 % 256) as u8,
+        (w2 % 256) as u8,
+        (w3 % 256) as u8,
+        (w4 % 256) as u8,
+        (w5 % 256) as u8,
+        (w6 % 256) as u8,
+        (w7 % 256) as u8,
+    ]
+}
+
+// The states after the first event of a fragment. From the last range to the first they are put into one word: that costs less than an array written byte by byte.
 fn begun_states(ranges: &[u64; 2048], base: usize, size: usize, join: u8, name: u8) -> [u8; 8]
     requires { ⌜ (base ≤ 2040) × (size ≤ 8) ⌝ }
     ensures { λ r. ⌜ r ≡ begunStates (record { words = now (ranges .entry); base = base; size = size; join = join }) name ⌝ }
 {
-    let mut x = [0u8; 8];
-    let mut i = 0usize;
-    while i < size {
-        x[i] = begun(name, book::name(ranges[base + i]));
-        i = i + 1;
+    let mut word = 0u64;
+    let mut i = size;
+    while 0 < i {
+        i = i - 1;
+        word = 256 * word + begun(name, book::name(ranges[base + i])) as u64;
     }
-    x
+    spread(word)
 }
 
 // The states where no event of the fragment has come: eight at most, whatever the number.
@@ -184,49 +216,39 @@ fn takes(s: u8, count: u16, v: u16) -> bool
     or(s == 1, s == 2)
 }
 
-// The fragment may be followed.
-fn complete(
+// A range in state s is over, asked by a class of events: *next* (2) or *other* (3) leaves it idle; *own* (0) is an error to it.
+fn over(class: u8, s: u8, join: u8, count: u16, word: u64) -> bool
+    ensures { λ r. ⌜ r ≡ overAt class s join count word ⌝ }
+{
+    if class == 2 {
+        return closes(s, join, count, book::low(word));
+    }
+    if class == 0 {
+        return !takes(s, count, book::high(word));
+    }
+    s == 0
+}
+
+// Every range is over. By 2 the fragment is complete and may be followed; by 0 it cannot take one more event. By 2 and 3 all become idle, and none is moved to tell that.
+fn all_over(
     ranges: &[u64; 2048],
     base: usize,
     size: usize,
     join: u8,
     states: [u8; 8],
     count: u16,
+    class: u8,
 ) -> bool
     requires { ⌜ (base ≤ 2040) × (size ≤ 8) ⌝ }
-    ensures { λ r. ⌜ r ≡ completeOf (record { words = now (ranges .entry); base = base; size = size; join = join }) states count ⌝ }
+    ensures { λ r. ⌜ r ≡ allOver (record { words = now (ranges .entry); base = base; size = size; join = join }) class states count ⌝ }
 {
     let mut all = true;
     let mut i = 0usize;
     while i < size {
-        all = and(
-            all,
-            closes(states[i], join, count, book::low(ranges[base + i])),
-        );
+        all = and(all, over(class, states[i], join, count, ranges[base + i]));
         i = i + 1;
     }
     all
-}
-
-// The fragment can take one more event.
-fn grows(
-    ranges: &[u64; 2048],
-    base: usize,
-    size: usize,
-    join: u8,
-    states: [u8; 8],
-    count: u16,
-) -> bool
-    requires { ⌜ (base ≤ 2040) × (size ≤ 8) ⌝ }
-    ensures { λ r. ⌜ r ≡ growsOf (record { words = now (ranges .entry); base = base; size = size; join = join }) states count ⌝ }
-{
-    let mut some = false;
-    let mut i = 0usize;
-    while i < size {
-        some = or(some, takes(states[i], count, book::high(ranges[base + i])));
-        i = i + 1;
-    }
-    some
 }
 
 // ---- time
@@ -262,20 +284,42 @@ fn ended(p: Plan, f: u8, end: u32, time: u32) -> u32
     time
 }
 
-// How fragment f sees an event: an event of Q after the deadline is *other* to every range.
-fn seen(p: Plan, f: u8, next: u8, here: bool, there: bool, end: u32, time: u32) -> u8
-    ensures { λ r. ⌜ r ≡ seenOf p f next here there end time ⌝ }
+// An event of fragment f is one of Q after the deadline.
+fn late(p: Plan, f: u8, end: u32, time: u32) -> bool
+    ensures { λ r. ⌜ r ≡ (leb (p .first) f && pastOf p end time) ⌝ }
+{
+    if p.first <= f {
+        return past(p, end, time);
+    }
+    false
+}
+
+// How fragment f of a rule sees an event: 1 as its own, 2 as *next*, 3 as *other*. An event of Q after the deadline is *other* to every range.
+// The following fragment is looked at only where f has not the name.
+fn seen(
+    names: &[u64; 256],
+    rule: usize,
+    p: Plan,
+    f: u8,
+    here: bool,
+    name: u8,
+    end: u32,
+    time: u32,
+) -> u8
+    requires { ⌜ (rule < 16) × (f < 16) ⌝ }
+    ensures { λ r. ⌜ r ≡ seenOf p f (followsOf f (p .last) % 16) here (member (getD (now (names .entry)) (16 * rule + followsOf f (p .last) % 16) 0) name) end time ⌝ }
 {
     if here {
-        if and(p.first <= f, past(p, end, time)) {
+        if late(p, f, end, time) {
             return 3;
         }
         return 1;
     }
-    if and(p.first <= next, past(p, end, time)) {
+    let next = follows(f, p.last) % 16;
+    if late(p, next, end, time) {
         return 3;
     }
-    if there {
+    if names::has(names[16 * rule + next as usize], name) {
         return 2;
     }
     3
@@ -290,36 +334,43 @@ pub fn due(p: Plan, end: u32, time: u32) -> u8
     2
 }
 
-// The rule's next event would have to be of Q and in time.
-fn runs(p: Plan, f: u8, complete: bool, grows: bool) -> bool
-    requires { ⌜ f < 16 ⌝ }
-    ensures { λ r. ⌜ r ≡ runsOf p f complete grows ⌝ }
+// ---- how a rule stands
+
+// The rule's next event would have to be of Q and in time. The ranges are looked at only in the last fragment of P.
+fn runs(ranges: &[u64; 2048], base: usize, size: usize, join: u8, p: Plan, st: RuleState) -> bool
+    requires { ⌜ ((base ≤ 2040) × (size ≤ 8)) × (st .fragment < 16) ⌝ }
+    ensures { λ r. ⌜ r ≡ runsOf p (st .fragment) (completeOf (record { words = now (ranges .entry); base = base; size = size; join = join }) (st .states) (st .count)) (growsOf (record { words = now (ranges .entry); base = base; size = size; join = join }) (st .states) (st .count)) ⌝ }
 {
     if p.kind != 2 {
         return false;
     }
-    or(
-        p.first <= f,
-        and(p.first <= follows(f, p.last), and(complete, !grows)),
-    )
+    if p.first <= st.fragment {
+        return true;
+    }
+    if follows(st.fragment, p.last) < p.first {
+        return false;
+    }
+    let states = st.states;
+    if all_over(ranges, base, size, join, states, st.count, 2) {
+        return all_over(ranges, base, size, join, states, st.count, 0);
+    }
+    false
 }
 
-fn standing(p: Plan, f: u8, complete: bool, grows: bool, end: u32, time: u32) -> u8
-    requires { ⌜ f < 16 ⌝ }
-    ensures { λ r. ⌜ r ≡ standingOf p f complete grows end time ⌝ }
+// The round is complete. The ranges are looked at only in its last fragment.
+fn whole(ranges: &[u64; 2048], base: usize, size: usize, join: u8, p: Plan, st: RuleState) -> bool
+    requires { ⌜ ((base ≤ 2040) × (size ≤ 8)) × (st .fragment < 16) ⌝ }
+    ensures { λ r. ⌜ r ≡ (completeOf (record { words = now (ranges .entry); base = base; size = size; join = join }) (st .states) (st .count) && leb (p .last) (st .fragment + 1)) ⌝ }
 {
-    if and(complete, p.last <= f + 1) {
-        return 0;
+    if p.last <= st.fragment + 1 {
+        let states = st.states;
+        return all_over(ranges, base, size, join, states, st.count, 2);
     }
-    if runs(p, f, complete, grows) {
-        return due(p, end, time);
-    }
-    1
+    false
 }
 
-// ---- one rule
-
-fn settled(
+// How a rule stands in a state that has no error.
+fn standing(
     ranges: &[u64; 2048],
     base: usize,
     size: usize,
@@ -327,25 +378,29 @@ fn settled(
     p: Plan,
     st: RuleState,
     time: u32,
-) -> Stepped
+) -> u8
     requires { ⌜ ((base ≤ 2040) × (size ≤ 8)) × (st .fragment < 16) ⌝ }
-    ensures { λ r. ⌜ r ≡ settledOf (record { words = now (ranges .entry); base = base; size = size; join = join }) p st time ⌝ }
+    ensures { λ r. ⌜ r ≡ settledOf (record { words = now (ranges .entry); base = base; size = size; join = join }) p st time .standing ⌝ }
 {
-    let states = st.states;
-    let c = complete(ranges, base, size, join, states, st.count);
-    let g = grows(ranges, base, size, join, states, st.count);
-    let k = standing(p, st.fragment, c, g, st.end, time);
-    Stepped {
-        state: st,
-        standing: k,
+    if whole(ranges, base, size, join, p, st) {
+        return 0;
     }
+    if runs(ranges, base, size, join, p, st) {
+        return due(p, st.end, time);
+    }
+    1
 }
+
+// ---- one rule
 
 // The last fragment of a rule of kind 0 is its trigger: from then on the rule is released.
 fn releases(p: Plan, f: u8) -> bool
     ensures { λ r. ⌜ r ≡ (eqb (p .kind) 0 && leb (p .first) f) ⌝ }
 {
-    and(p.kind == 0, p.first <= f)
+    if p.kind == 0 {
+        return p.first <= f;
+    }
+    false
 }
 
 // The first event of a fragment; or the trigger of kind 0, which releases the rule.
@@ -359,33 +414,37 @@ fn begins(
     end: u32,
     name: u8,
     time: u32,
-) -> Stepped
-    requires { ⌜ ((base ≤ 2040) × (size ≤ 8)) × (f < 16) ⌝ }
-    ensures { λ r. ⌜ r ≡ beginOf (record { words = now (ranges .entry); base = base; size = size; join = join }) p f end name time ⌝ }
+) -> Moved
+    requires { ⌜ (base ≤ 2040) × (size ≤ 8) ⌝ }
+    ensures { λ r. ⌜ (r .state .fragment ≡ f) × (stoodOf (record { words = now (ranges .entry); base = base; size = size; join = join }) p r time ≡ beginOf (record { words = now (ranges .entry); base = base; size = size; join = join }) p f end name time) ⌝ }
 {
     let e = ended(p, f, end, time);
     if releases(p, f) {
-        return Stepped {
+        return Moved {
             state: RuleState {
                 fragment: f,
                 states: [0u8; 8],
                 count: 1,
                 end: e,
             },
+            sure: true,
             standing: 0,
         };
     }
     let x = begun_states(ranges, base, size, join, name);
-    let st = RuleState {
-        fragment: f,
-        states: x,
-        count: 1,
-        end: e,
-    };
-    settled(ranges, base, size, join, p, st, time)
+    Moved {
+        state: RuleState {
+            fragment: f,
+            states: x,
+            count: 1,
+            end: e,
+        },
+        sure: false,
+        standing: 1,
+    }
 }
 
-// The rule stays in its fragment.
+// The rule stays in fragment f, which has seen the event so. An error breaks it.
 fn stays(
     ranges: &[u64; 2048],
     base: usize,
@@ -394,26 +453,25 @@ fn stays(
     p: Plan,
     st: RuleState,
     f: u8,
-    x: Turned,
+    name: u8,
+    seen: u8,
     time: u32,
-) -> Stepped
-    requires { ⌜ ((base ≤ 2040) × (size ≤ 8)) × (f < 16) ⌝ }
-    ensures { λ r. ⌜ r ≡ stayOf (record { words = now (ranges .entry); base = base; size = size; join = join }) p st f x time ⌝ }
+) -> Moved
+    requires { ⌜ (base ≤ 2040) × (size ≤ 8) ⌝ }
+    ensures { λ r. ⌜ (r .state .fragment ≡ f) × (stoodOf (record { words = now (ranges .entry); base = base; size = size; join = join }) p r time ≡ stayOf (record { words = now (ranges .entry); base = base; size = size; join = join }) p st f (turnOf (record { words = now (ranges .entry); base = base; size = size; join = join }) name seen st) time) ⌝ }
 {
+    let x = turn(ranges, base, size, join, st, name, seen);
     let states = x.states;
-    let o = RuleState {
-        fragment: f,
-        states: states,
-        count: x.count,
-        end: ended(p, f, st.end, time),
-    };
-    if x.bad {
-        return Stepped {
-            state: o,
-            standing: 3,
-        };
+    Moved {
+        state: RuleState {
+            fragment: f,
+            states: states,
+            count: x.count,
+            end: ended(p, f, st.end, time),
+        },
+        sure: x.bad,
+        standing: 3,
     }
-    settled(ranges, base, size, join, p, o, time)
 }
 
 pub fn plan_of(head: u64) -> Plan
@@ -425,6 +483,66 @@ pub fn plan_of(head: u64) -> Plan
         last: book::fragments_in_round(head),
         limit: book::time(head),
     }
+}
+
+// "An event seen as *next* by every range of the fragment, without error, is also the first event of the following one." Only a name that the fragment has not can be one.
+fn passes(
+    ranges: &[u64; 2048],
+    base: usize,
+    size: usize,
+    join: u8,
+    st: RuleState,
+    here: bool,
+    seen: u8,
+) -> bool
+    requires { ⌜ (base ≤ 2040) × (size ≤ 8) ⌝ }
+    ensures { λ r. ⌜ r ≡ (not here && allOver (record { words = now (ranges .entry); base = base; size = size; join = join }) seen (st .states) (st .count)) ⌝ }
+{
+    if here {
+        return false;
+    }
+    let states = st.states;
+    all_over(ranges, base, size, join, states, st.count, seen)
+}
+
+// An event on one of the names of a rule that is not released.
+fn moves<'a>(
+    fragments: &'a [u16; 256],
+    names: &'a [u64; 256],
+    ranges: &'a [u64; 2048],
+    rule: usize,
+    p: Plan,
+    st: RuleState,
+    name: u8,
+    time: u32,
+) -> Moved
+    requires { ⌜ (rule < 16) × ((eqb (p .kind) 0 && leb (p .first) (st .fragment % 16)) ≡ false) ⌝ }
+    ensures { λ m. ⌜ (m .state .fragment < 16) × (stoodOf (rangesOf (now (fragments .entry)) (now (ranges .entry)) (16 * rule + m .state .fragment)) p m time ≡ actOf (now (fragments .entry)) (now (names .entry)) (now (ranges .entry)) rule p st name time) ⌝ }
+{
+    let f = st.fragment % 16;
+    let k = 16 * rule + f as usize;
+    let word = fragments[k];
+    let size = book::ranges_in(word) as usize;
+    let join = book::join(word);
+    let here = names::has(names[k], name);
+    let how = seen(names, rule, p, f, here, name, st.end, time);
+    if passes(ranges, 8 * k, size, join, st, here, how) {
+        let next = follows(f, p.last) % 16;
+        let n = 16 * rule + next as usize;
+        let w = fragments[n];
+        return begins(
+            ranges,
+            8 * n,
+            book::ranges_in(w) as usize,
+            book::join(w),
+            p,
+            next,
+            st.end,
+            name,
+            time,
+        );
+    }
+    stays(ranges, 8 * k, size, join, p, st, f, name, how, time)
 }
 
 // An event on one of rule r's names.
@@ -440,44 +558,27 @@ pub fn act<'a>(
 ) -> Stepped
     ensures { λ s. ⌜ s ≡ actOf (now (fragments .entry)) (now (names .entry)) (now (ranges .entry)) (r % 16) p st name time ⌝ }
 {
-    let f = st.fragment % 16;
-    if releases(p, f) {
+    if releases(p, st.fragment % 16) {
         return Stepped {
             state: st,
             standing: 0,
         };
     }
-    let next = follows(f, p.last) % 16;
     let rule = r % 16;
-    let k = 16 * rule + f as usize;
-    let n = 16 * rule + next as usize;
-    let here = names::has(names[k], name);
-    let there = names::has(names[n], name);
+    let m = moves(fragments, names, ranges, rule, p, st, name, time);
+    let o = m.state;
+    if m.sure {
+        return Stepped {
+            state: o,
+            standing: m.standing,
+        };
+    }
+    let k = 16 * rule + o.fragment as usize;
     let word = fragments[k];
     let size = book::ranges_in(word) as usize;
-    let join = book::join(word);
-    let x = turn(
-        ranges,
-        8 * k,
-        size,
-        join,
-        st,
-        name,
-        seen(p, f, next, here, there, st.end, time),
-    );
-    if and(!here, x.idle) {
-        let w = fragments[n];
-        return begins(
-            ranges,
-            8 * n,
-            book::ranges_in(w) as usize,
-            book::join(w),
-            p,
-            next,
-            st.end,
-            name,
-            time,
-        );
+    let s = standing(ranges, 8 * k, size, book::join(word), p, o, time);
+    Stepped {
+        state: o,
+        standing: s,
     }
-    stays(ranges, 8 * k, size, join, p, st, f, x, time)
 }

@@ -1,13 +1,13 @@
--- `step::releases` meets its contract: it is what `and` ensures. Assumes nothing.
-use borrow.Author.Needs.{needs}
+-- `step::releases` meets its contract: at each return the test is as there. Assumes nothing.
+use borrow.Author.Tests.{eq-eqb, ne-eqb}
 use Rattle.step.proofs.releases.Statement.{statement}
 use Rattle.step.proofs.releases.Tie as tie
 
-and-requires : tie.Need-and-requires
-and-requires c κs = search needs
-
 returns : tie.Need-returns
-returns c = c .and .ensures
+returns c = simp (eq-eqb _ _ (c .before .if1 .taken))
+
+returns-2 : tie.Need-returns-2
+returns-2 c = simp (ne-eqb _ _ (c .if1 .left))
 
 pub releases-spec : {M : Type 1} → statement M
-releases-spec = tie.close (tie.spec and-requires returns)
+releases-spec = tie.close (tie.spec returns returns-2)

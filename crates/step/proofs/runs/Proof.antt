@@ -1,6 +1,7 @@
--- `step::runs` meets its contract: at each return the test is as in `runsOf`. Assumes nothing.
-use borrow.Author.Tests.{eq-eqb, ne-eqb}
+-- `step::runs` meets its contract: at each return the tests are as in `runsOf`. Assumes nothing.
+use borrow.Author.Tests.{eq-eqb, ne-eqb, le-leb, lt-leb}
 use Rattle.step.specs.Steps.{runsOf}
+use Rattle.step.proofs.Ending.{complete-over, grows-over}
 use borrow.Author.Needs.{needs}
 use Rattle.step.proofs.runs.Statement.{statement}
 use Rattle.step.proofs.runs.Tie as tie
@@ -9,21 +10,40 @@ returns : tie.Need-returns
 unfolding runsOf
 returns c = simp (ne-eqb _ _ (c .if1 .taken))
 
+returns-2 : tie.Need-returns-2
+unfolding runsOf
+returns-2 c = simp (eq-eqb _ _ (c .before .before .before .if1 .left), le-leb _ _ (c .if2 .taken))
+
 follows-requires : tie.Need-follows-requires
 follows-requires c κs = search needs
 
-and-requires : tie.Need-and-requires
-and-requires c κs = search needs
-
-and-requires-2 : tie.Need-and-requires-2
-and-requires-2 c κs = search needs
-
-or-requires : tie.Need-or-requires
-or-requires c κs = search needs
-
-returns-2 : tie.Need-returns-2
+returns-3 : tie.Need-returns-3
 unfolding runsOf
-returns-2 c = simp (eq-eqb _ _ (c .before .before .before .before .before .before .if1 .left), c .or .ensures, c .before .and2 .ensures, c .before .before .and .ensures, c .before .before .before .before .follows .ensures)
+returns-3 c =
+    let p = c .before .before .before in
+    rw (eq-eqb _ _ (p .before .before .before .if1 .left), lt-leb _ _ (p .if2 .left), ← c .before .before .follows .ensures, lt-leb _ _ (c .if3 .taken))
+
+all-over-requires : tie.Need-all-over-requires
+all-over-requires c κs = search needs
+
+all-over-requires-2 : tie.Need-all-over-requires-2
+all-over-requires-2 c κs = search needs
+
+returns-4 : tie.Need-returns-4
+unfolding runsOf
+returns-4 c =
+    let l = c .before .before in
+    let n = l .before .before in
+    let p = n .before .before .before in
+    rw (eq-eqb _ _ (p .before .before .before .if1 .left), lt-leb _ _ (p .if2 .left), ← n .before .before .follows .ensures, le-leb _ _ (n .if3 .left), complete-over, ← l .all-over .ensures, c .before .if4 .taken, grows-over, ← c .all-over2 .ensures)
+
+returns-5 : tie.Need-returns-5
+unfolding runsOf
+returns-5 c =
+    let l = c .before in
+    let n = l .before .before in
+    let p = n .before .before .before in
+    rw (eq-eqb _ _ (p .before .before .before .if1 .left), lt-leb _ _ (p .if2 .left), ← n .before .before .follows .ensures, le-leb _ _ (n .if3 .left), complete-over, ← l .all-over .ensures, c .if4 .left)
 
 pub runs-spec : {M : Type 1} → statement M
-runs-spec = tie.close (tie.spec returns follows-requires and-requires and-requires-2 or-requires returns-2)
+runs-spec = tie.close (tie.spec returns returns-2 follows-requires returns-3 all-over-requires all-over-requires-2 returns-4 returns-5)
