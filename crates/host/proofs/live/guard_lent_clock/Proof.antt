@@ -1,0 +1,18 @@
+-- `host::live::guard_lent_clock` keeps its promise. Assumes nothing.
+use Rattle.host.proofs.Lending.{notes}
+use borrow.Author.Needs.{needs}
+use Rattle.host.proofs.live.guard_lent_clock.Statement.{statement}
+use Rattle.host.proofs.live.guard_lent_clock.Tie as tie
+
+observe-requires : tie.Need-observe-requires
+observe-requires c κs = search needs
+
+answer-word-requires : tie.Need-answer-word-requires
+answer-word-requires c κs = search needs
+
+returns : tie.Need-returns
+returns c =
+    notes (c .before .observe .ensures) (c .answer-word .ensures)
+
+pub guard-lent-clock-spec : {M : Type 1} → statement M
+guard-lent-clock-spec = tie.close (tie.spec observe-requires answer-word-requires returns)
