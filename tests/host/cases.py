@@ -3,7 +3,7 @@
 
     python3 tests/host/cases.py FILE [SEED]
 
-The sheets, logs and budgets are those of reference/make.py under another seed. A session's list is the log's records, with refused observations put in between
+The sheets, logs and budgets are those of reference/make.py under another seed, and some with more rules. A session's list is the log's records, with refused observations put in between
 and some more behind, after a break too; what is due for it is the answer of the reference's judge to each. The traces stored for `replay` come last: their
 monitors may start near the last count there is, which is where refusal 13 is.
 
@@ -14,6 +14,7 @@ The file, all numbers little-endian: u32 number of cases; then each case:
 An answer is u8 answer, u8 refusal, u16 mask, u32 place.
 """
 import functools
+import itertools
 import os
 import random
 import struct
@@ -27,7 +28,8 @@ sys.path.insert(0, os.path.join(ROOT, "reference"))
 import guard
 import make
 from guard import BROKEN, CLOCK, MOST, OPEN, REFUSED, WHOLE, Judge
-from sheets import Dice
+from logs import log_bytes, some_log
+from sheets import Dice, Sheet, some_kind, some_pool, some_rule, variant, written
 
 SEED = 1202
 AT_LEAST = 100
@@ -42,6 +44,25 @@ def answer_bytes(answer, refusal=0, mask=0, place=0):
 def verdict_bytes(verdict):
     answer, mask, place = verdict
     return answer_bytes(answer, 0, mask, place)
+
+
+# ---- sheets of many rules, which the reference's own have seldom
+
+def many_rules(dice):
+    """Five to sixteen rules, on four names each or variants of one. some_pool makes every second name an output, as some_rule wants it."""
+    pool, outputs = some_pool(dice, 64)
+    count = dice.between(5, 16)
+    if dice.chance(0.6):
+        return Sheet(outputs, tuple(some_rule(dice, pool[4 * i:4 * i + 4], outputs, some_kind(dice)) for i in range(count)))
+    rule = some_rule(dice, pool[:12], outputs, some_kind(dice))
+    return Sheet(outputs, tuple(variant(dice, rule) for _ in range(count)))
+
+
+def many_rules_cases(dice, count):
+    for _ in range(count):
+        sheet = many_rules(dice)
+        log = some_log(dice, sheet, dice.pick([6, 12, 24]))
+        yield make.Case("many rules", written(sheet)[0], log_bytes(log), make.some_budget(dice, len(log)))
 
 
 # ---- a session's list: (clock, name, time)
@@ -141,12 +162,14 @@ def stored_cases(met):
 def write(path, seed):
     make.SEED = seed
     dice = Dice(random.Random(seed + 1).random)
-    body, tally, met = [], make.Tally(), Counter()
-    for case in make.all_cases():
+    body, tally, met, high = [], make.Tally(), Counter(), Counter()
+    for case in itertools.chain(make.all_cases(), many_rules_cases(dice, 1000)):
         result = guard.run(case.sheet, case.log, case.budget)
         tally.add(case, result, make.cause(case, result))
+        high[result.answer] += result.mask >= 256
         body.append(random_case(dice, case, result, met))
     tally.hold()
+    assert all(high[a] >= AT_LEAST // 2 for a in (OPEN, BROKEN)), high
     body += stored_cases(met)
     due = [(WHOLE, 0), (OPEN, 0), (BROKEN, 0), (REFUSED, 11), (REFUSED, 12), (REFUSED, 13)]
     assert all(met[a] >= AT_LEAST for a in due), met

@@ -90,6 +90,7 @@ guard_answer observe(const guard_book *book, guard_monitor *monitor, struct obse
 
 /* ---- the groups of checks */
 
+void check_openings(void);
 void check_traces(void);
 void check_cases(void);
 void check_sessions(void);

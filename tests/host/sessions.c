@@ -27,12 +27,15 @@ static guard_answer refused(uint8_t number)
     return answer(GUARD_REFUSED, number, 0, 0);
 }
 
+static long steps; /* observations of the check under way */
+
 /* An observation that is due an answer; a refused one has to leave book and monitor as they are, byte by byte. */
 static long wrong_step(const guard_book *book, guard_monitor *monitor, int clock, uint32_t name, uint32_t time, guard_answer due)
 {
     static guard_book old_book;
     guard_monitor old = *monitor;
     old_book = *book;
+    steps++;
     struct observation o = {clock, name, time, due};
     guard_answer a = observe(book, monitor, o), held = guard_verdict(monitor);
     long wrong = !same_answer(a, due) || memcmp(book, &old_book, sizeof old_book) != 0;
@@ -46,7 +49,7 @@ static void check_count(void)
 {
     guard_book book;
     guard_monitor monitor;
-    long wrong = 0;
+    long wrong = steps = 0;
     guard_open(&book, &monitor, sheet_t, T_BYTES);
     wrong += wrong_step(&book, &monitor, 0, 0, 7, open_rule());
     wrong += guard_taken(&monitor) != 1;
@@ -61,7 +64,7 @@ static void check_count(void)
     wrong += wrong_step(&book, &monitor, 1, 0, 0, refused(11));
     wrong += wrong_step(&book, &monitor, 0, 64, 8, refused(12));
     wrong += guard_taken(&monitor) != ALL || !same_answer(guard_verdict(&monitor), open_rule());
-    tell("the count's end: 13, after 12 and 11", 13, wrong);
+    tell("the count's end: 13, after 12 and 11", steps, wrong);
 }
 
 /* k is the last number there is, and a stopped book answers it for good. */
@@ -69,7 +72,7 @@ static void check_last_break(void)
 {
     guard_book book;
     guard_monitor monitor;
-    long wrong = 0;
+    long wrong = steps = 0;
     guard_open(&book, &monitor, sheet_n, N_BYTES);
     set_taken(&monitor, ALL - 1);
     guard_answer broken = answer(GUARD_BROKEN, 0, 1, ALL);
@@ -77,7 +80,7 @@ static void check_last_break(void)
     wrong += wrong_step(&book, &monitor, 0, 2, 0, broken);
     wrong += wrong_step(&book, &monitor, 1, 0, 5, broken);
     wrong += guard_taken(&monitor) != ALL;
-    tell("a break at the last count", 4, wrong);
+    tell("a break at the last count", steps, wrong);
 }
 
 /* "12 (a name of 64 or more)": also those whose low bytes are a name, and a log's FF. Then "a time before the latest". */
@@ -86,14 +89,14 @@ static void check_refused(void)
     static const uint32_t names[] = {64, 65, 127, 128, 254, 255, 256, 257, 319, 65535, 65536, 65537, 16777216, 2147483648u, ALL - 63, ALL};
     guard_book book;
     guard_monitor monitor;
-    long count = 0, wrong = 0;
+    long wrong = steps = 0;
     guard_open(&book, &monitor, sheet_r, R_BYTES);
     wrong += wrong_step(&book, &monitor, 0, 1, 5, open_rule());
     for (size_t i = 0; i < sizeof names / sizeof *names; i++)
-        for (uint32_t time = 4; time <= 6; time++, count++)
+        for (uint32_t time = 4; time <= 6; time++)
             if (wrong_step(&book, &monitor, 0, names[i], time, refused(12)))
                 wrong += differs("a refused name", names[i]);
-    for (uint32_t time = 0; time <= 4; time++, count += 2) {
+    for (uint32_t time = 0; time <= 4; time++) {
         wrong += wrong_step(&book, &monitor, 0, time, time, refused(11));
         wrong += wrong_step(&book, &monitor, 1, 0, time, refused(11));
     }
@@ -101,7 +104,7 @@ static void check_refused(void)
     wrong += wrong_step(&book, &monitor, 0, 0, 5, open_rule());
     wrong += wrong_step(&book, &monitor, 0, 2, 5, whole());
     wrong += guard_taken(&monitor) != 4;
-    tell("refused observations, book and monitor as they were", count, wrong);
+    tell("refused observations, book and monitor as they were", steps, wrong);
 }
 
 /* "A stopped book gives that same answer to every later observation, unchecked." */
@@ -109,19 +112,19 @@ static void check_stopped(void)
 {
     guard_book book;
     guard_monitor monitor;
-    long count = 0, wrong = 0;
+    long wrong = steps = 0;
     guard_answer broken = answer(GUARD_BROKEN, 0, 1, 3);
     guard_open(&book, &monitor, sheet_t, T_BYTES);
     wrong += wrong_step(&book, &monitor, 0, 0, 0, open_rule());
     wrong += wrong_step(&book, &monitor, 0, 0, 5, open_rule());
     wrong += wrong_step(&book, &monitor, 0, 1, 16, broken);
     guard_monitor stopped = monitor;
-    for (uint32_t name = 0; name < 300; name++, count++) {
+    for (uint32_t name = 0; name < 300; name++) {
         wrong += wrong_step(&book, &monitor, name % 3 == 0, name, name % 40, broken);
         wrong += memcmp(&stopped, &monitor, sizeof stopped) != 0;
     }
     wrong += guard_taken(&monitor) != 3;
-    tell("observations of a stopped book", count, wrong);
+    tell("observations of a stopped book", steps, wrong);
 }
 
 /* guard_start gives what guard_open gives, whatever stood there: here by the session's answers, below by every byte. */

@@ -1,5 +1,5 @@
 /* The guard from C. The call of a C host, by hand: the printed case, a budget, refusals, a short output, the bytes behind the twelve. What is due is written out from
- * document 01. The other files check the traces, the reference's cases, sessions, page edges and garbage; each check prints a line, and any failure ends with status 1. */
+ * document 01. The other files check sheets, traces, the reference's cases, sessions, page edges and garbage; each check prints a line, and any failure ends with status 1. */
 #define _POSIX_C_SOURCE 200112L
 #include "host.h"
 
@@ -44,8 +44,10 @@ uint32_t below(uint32_t n)
 
 void scramble(void *bytes, size_t length)
 {
-    for (size_t i = 0; i < length; i++)
-        ((uint8_t *)bytes)[i] = (uint8_t)number();
+    for (size_t i = 0; i < length; i += sizeof(uint64_t)) {
+        uint64_t word = number();
+        memcpy((uint8_t *)bytes + i, &word, length - i < sizeof word ? length - i : sizeof word);
+    }
 }
 
 guard_answer answer(uint8_t kind, uint8_t refusal, uint16_t mask, uint32_t place)
@@ -150,10 +152,12 @@ int main(int argc, char **argv)
         fprintf(stderr, "usage: test CASES, a file that cases.py wrote\n");
         return 2;
     }
-    alarm(300); /* a call that does not return is a failure too */
+    setvbuf(stdout, NULL, _IOLBF, 0); /* a fault ends the program: what was checked before it stays seen */
+    alarm(120);                       /* and so does a call that does not return */
     read_cases(argv[1]);
     check_calls();
     check_outputs();
+    check_openings();
     check_traces();
     check_cases();
     check_sessions();

@@ -70,7 +70,7 @@ static size_t log_of(const struct observation *os, size_t n, uint8_t *log)
 {
     for (size_t i = 0; i < n; i++) {
         log[5 * i] = os[i].clock ? 0xFF : (uint8_t)os[i].name;
-        for (int b = 0; b < 4; b++)
+        for (size_t b = 0; b < 4; b++)
             log[5 * i + 1 + b] = (uint8_t)(os[i].time >> 8 * b);
     }
     return 5 * n;
@@ -113,6 +113,7 @@ static void play(long number, const struct trace *t, const struct observation *o
     guard_monitor monitor;
     if (guard_open(&book, &monitor, t->sheet, t->length).answer != GUARD_WHOLE)
         counts->wrong_live += differs("a trace's sheet", number);
+    counts->budgets++;
     counts->wrong_budgets += wrong_budget(t, log, 5 * n, 0, guard_verdict(&monitor), guard_taken(&monitor));
     for (size_t i = 0; i < n; i++) {
         guard_answer held = guard_verdict(&monitor), a = observe(&book, &monitor, os[i]), after = guard_verdict(&monitor);

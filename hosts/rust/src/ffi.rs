@@ -165,6 +165,9 @@ mod tests {
     fn a_refused_sheet_changes_nothing() {
         let mut tables = Tables::EMPTY;
         tables.heads.fill(0x1234_5678_9ABC_DEF0);
+        tables.fragments.fill(0x1357);
+        tables.names.fill(0x2468_ACE0_1357_9BDF);
+        tables.ranges.fill(0x0246_8ACE_1357_9BDF);
         tables.holders.fill(0xFEDC);
         let old = tables.clone();
         let mut monitor: Words = [0x0F1E_2D3C_4B5A_6978; 34];

@@ -152,6 +152,26 @@ fn threads() {
     }
 }
 
+/// Nothing is kept from call to call but in a book and a monitor: books opened in many threads at once are each their own.
+#[test]
+fn books_opened_at_once() {
+    let open_many = |odd: usize| {
+        for i in 0..1000 {
+            let (sheet, name, due): (&[u8], _, _) = if i % 2 == odd {
+                (&T, 0, OPEN)
+            } else {
+                (&N, 2, Ok(Verdict::Broken { at: 1, mask: 1 }))
+            };
+            assert_eq!(Book::open(sheet).unwrap().session().event(name, 3), due);
+        }
+    };
+    std::thread::scope(|scope| {
+        for thread in 0..4 {
+            scope.spawn(move || open_many(thread % 2));
+        }
+    });
+}
+
 /// "For a table or monitor that these calls didn't make, or a monitor opened for another book, the verdict is free; the call still returns".
 #[test]
 fn words_of_no_session() {
