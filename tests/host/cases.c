@@ -114,18 +114,22 @@ long wrong_opened(const struct reference_case *c, const uint8_t *sheet, guard_bo
     return memcmp(book, &old_book, sizeof old_book) != 0 || memcmp(monitor, &old_monitor, sizeof old_monitor) != 0;
 }
 
-/* Each answer of the list is the judge's; a refused observation leaves every byte of the monitor; at the end the verdict and the taken count are the judge's. */
+/* Each answer of the list is the judge's, and so are the verdict and the taken count after each; a refused observation leaves every byte of the monitor. */
 long wrong_live(const struct reference_case *c, const guard_book *book, guard_monitor *monitor)
 {
     long wrong = 0;
+    guard_answer held = answer(GUARD_WHOLE, 0, 0, 0);
+    uint32_t taken = c->before;
     if (c->before)
         set_taken(monitor, c->before);
     for (size_t i = 0; i < c->count; i++) {
         struct observation o = observation_of(c, i);
         guard_monitor old = *monitor;
         guard_answer a = observe(book, monitor, o);
-        wrong += !same_answer(a, o.due);
-        wrong += a.answer == GUARD_REFUSED && memcmp(&old, monitor, sizeof old) != 0;
+        if (o.due.answer != GUARD_REFUSED)
+            taken += held.answer != GUARD_BROKEN, held = o.due;
+        wrong += !same_answer(a, o.due) || !same_answer(guard_verdict(monitor), held) || guard_taken(monitor) != taken ||
+                 (a.answer == GUARD_REFUSED && memcmp(&old, monitor, sizeof old) != 0);
     }
     return wrong + (!same_answer(guard_verdict(monitor), c->verdict) || guard_taken(monitor) != c->taken);
 }

@@ -5,7 +5,8 @@ mod common;
 use common::{N, R, T};
 use guard::{run, Book, Refusal, Verdict};
 
-/// Sheet; observations ("0@5" is name 0 at time 5, "c@5" a clock reading); each answer (w whole, o open, b broken with its k, r refused with its number; the mask is 1); the five numbers.
+/// Sheet; observations ("0@5" is name 0 at time 5, "c@5" a clock reading); each answer (w whole, o open, b broken with its k, r refused with its
+/// number; the mask is 1); the five numbers.
 const TRACES: [(&[u8], &str, &str, &str); 16] = [
     (&T, "", "", "0 0 0 0 0"),
     (&T, "0@0 0@5 1@15", "o o w", "0 0 0 3 0"),
