@@ -1,0 +1,152 @@
+//! A book, and live sessions under it.
+
+use crate::answers::{answer_of, Refusal, Verdict};
+use crate::ffi::{self, Tables, Words};
+use std::borrow::Borrow;
+use std::fmt;
+
+/// A translated sheet. Any number of sessions can go on under one book, in any threads.
+#[derive(Clone)]
+pub struct Book {
+    tables: Box<Tables>,
+}
+
+impl Book {
+    /// Reads a sheet.
+    ///
+    /// # Errors
+    /// Refusals 1 to 10, with the offset of the first faulty field.
+    ///
+    /// ```
+    /// use guard::{Book, Refusal};
+    /// assert_eq!(Book::open(b"").unwrap_err(), Refusal::Truncated { place: 0 });
+    /// assert_eq!(Book::open(b"LOL").unwrap_err(), Refusal::Mark { place: 0 });
+    /// ```
+    pub fn open(sheet: &[u8]) -> Result<Book, Refusal> {
+        let mut tables = Box::new(Tables::EMPTY);
+        let mut monitor = [0; 34];
+        let opened = answer(ffi::open(sheet, &mut tables, &mut monitor), true);
+        opened.map(|_| Book { tables })
+    }
+
+    /// A fresh session under this book.
+    pub fn session(&self) -> Session<&Book> {
+        Session::under(self)
+    }
+}
+
+impl fmt::Debug for Book {
+    fn fmt(&self, f: &mut fmt::Formatter<'_>) -> fmt::Result {
+        f.debug_struct("Book").finish_non_exhaustive()
+    }
+}
+
+/// An answer's number: answer, refusal, mask and place, lowest first. A live observation has no place but a break's.
+fn answer(word: u64, of_sheet: bool) -> Result<Verdict, Refusal> {
+    let place = (word >> 32) as u32;
+    answer_of(word as u8, (word >> 8) as u8, (word >> 16) as u16, place, of_sheet.then_some(place))
+}
+
+/// One plugin's session: everything that was observed so far, in one monitor of 272 bytes.
+///
+/// The book is borrowed, or shared: `B` is `&Book` from [`Book::session`], or for example an `Arc<Book>` where a session has to own its book.
+///
+/// ```
+/// # fn sheet() -> Vec<u8> {
+/// #     let mut bytes = b"LOB\x01\0\x02\0\0\0\0\0\0\0\x01".to_vec();
+/// #     bytes.extend([2, 1, 1, 0, 10, 0, 0, 0, 0, 1, 0, 2, 0, 3, 0, 0, 1, 1, 1, 0, 2, 0]);
+/// #     bytes
+/// # }
+/// use guard::{Book, Session, Verdict};
+/// use std::sync::Arc;
+/// // rule T of document 01: two or three 0, then one or two 1 at most 10 ms after the last 0
+/// let book = Arc::new(Book::open(&sheet())?);
+/// let mut session = Session::under(Arc::clone(&book));
+/// session.event(0, 0)?;
+/// session.event(0, 1)?;
+/// session.event(0, 2)?;
+/// // what a timer calls, so that a deadline is noticed while no call is made
+/// assert_eq!(session.clock(12)?, Verdict::Open { mask: 1 });
+/// assert_eq!(session.clock(13)?, Verdict::Broken { at: 5, mask: 1 });
+/// # Ok::<(), guard::Refusal>(())
+/// ```
+///
+/// A borrowed book outlives its sessions:
+///
+/// ```compile_fail,E0597
+/// let mut session = {
+///     let book = guard::Book::open(&[])?;
+///     book.session()
+/// };
+/// session.clock(0)?;
+/// # Ok::<(), guard::Refusal>(())
+/// ```
+#[derive(Clone)]
+pub struct Session<B: Borrow<Book>> {
+    book: B,
+    monitor: Words,
+}
+
+impl<B: Borrow<Book>> Session<B> {
+    /// A fresh session: nothing taken, latest time 0, verdict whole.
+    pub fn under(book: B) -> Session<B> {
+        let mut session = Session { book, monitor: [0; 34] };
+        session.restart();
+        session
+    }
+
+    /// Goes on from stored words, those of [`words`](Session::words) under an equal book. For any others the verdicts are free, and nothing else happens.
+    pub fn resume(book: B, words: Words) -> Session<B> {
+        Session { book, monitor: words }
+    }
+
+    /// The words of the monitor, to be stored.
+    pub fn words(&self) -> Words {
+        self.monitor
+    }
+
+    /// The same session from the start.
+    pub fn restart(&mut self) {
+        ffi::start(&self.book.borrow().tables, &mut self.monitor);
+    }
+
+    /// One call between host and plugin, at a time in milliseconds. After a break every observation gets the same answer, unchecked.
+    ///
+    /// # Errors
+    /// Looked for in this order: 12 for a name of 64 or more, 11 for a time before the latest one, 13 after 4,294,967,295 observations. Nothing has changed then.
+    pub fn event(&mut self, name: u32, time: u32) -> Result<Verdict, Refusal> {
+        answer(ffi::event(&self.book.borrow().tables, &mut self.monitor, name, time), false)
+    }
+
+    /// A time alone: what a host's timer calls, so that a deadline is noticed while no call is made.
+    ///
+    /// # Errors
+    /// Refusals 11 and 13, as for [`event`](Session::event).
+    pub fn clock(&mut self, time: u32) -> Result<Verdict, Refusal> {
+        answer(ffi::clock(&self.book.borrow().tables, &mut self.monitor, time), false)
+    }
+
+    /// The verdict on what was taken so far.
+    pub fn verdict(&self) -> Verdict {
+        answer(ffi::verdict(&self.monitor), false).expect("a monitor holds a verdict and no refusal")
+    }
+
+    /// How many observations were taken: all but the refused ones and those after a break.
+    pub fn taken(&self) -> u32 {
+        ffi::taken(&self.monitor)
+    }
+
+    /// The book of this session.
+    pub fn book(&self) -> &Book {
+        self.book.borrow()
+    }
+}
+
+impl<B: Borrow<Book>> fmt::Debug for Session<B> {
+    fn fmt(&self, f: &mut fmt::Formatter<'_>) -> fmt::Result {
+        f.debug_struct("Session")
+            .field("verdict", &self.verdict())
+            .field("taken", &self.taken())
+            .finish_non_exhaustive()
+    }
+}

@@ -1,0 +1,110 @@
+//! The cases that tests/host/cases.py takes from the reference: each log by the call, each list of observations by a session. The script says how its file is laid out.
+
+use guard::{run, Book, Refusal, Session, Verdict};
+use std::path::{Path, PathBuf};
+use std::process::Command;
+
+/// The file's bytes: that of GUARD_CASES, or one written now.
+fn file() -> Vec<u8> {
+    if let Some(path) = std::env::var_os("GUARD_CASES") {
+        return std::fs::read(path).expect("GUARD_CASES names a file that cases.py has written");
+    }
+    let script = Path::new(env!("CARGO_MANIFEST_DIR")).join("../../tests/host/cases.py");
+    let path: PathBuf = std::env::temp_dir().join(format!("guard-cases-{}", std::process::id()));
+    let status = Command::new("python3").arg(&script).arg(&path).status().expect("python3 runs cases.py");
+    assert!(status.success(), "{} failed", script.display());
+    let bytes = std::fs::read(&path).unwrap();
+    std::fs::remove_file(&path).unwrap();
+    bytes
+}
+
+struct Bytes<'a>(&'a [u8]);
+
+impl<'a> Bytes<'a> {
+    fn take(&mut self, n: usize) -> &'a [u8] {
+        let (taken, rest) = self.0.split_at(n);
+        self.0 = rest;
+        taken
+    }
+
+    fn one(&mut self) -> u8 {
+        self.take(1)[0]
+    }
+
+    fn two(&mut self) -> u16 {
+        u16::from_le_bytes(self.take(2).try_into().unwrap())
+    }
+
+    fn four(&mut self) -> u32 {
+        u32::from_le_bytes(self.take(4).try_into().unwrap())
+    }
+
+    fn slice(&mut self) -> &'a [u8] {
+        let length = self.two();
+        self.take(length.into())
+    }
+
+    fn answer(&mut self) -> [u32; 4] {
+        [self.one().into(), self.one().into(), self.two().into(), self.four()]
+    }
+}
+
+/// The four numbers of an answer: answer, refusal, mask, place.
+fn numbers(answer: Result<Verdict, Refusal>) -> [u32; 4] {
+    match answer {
+        Ok(Verdict::Whole) => [0, 0, 0, 0],
+        Ok(Verdict::Open { mask }) => [1, 0, mask.into(), 0],
+        Ok(Verdict::Broken { at, mask }) => [2, 0, mask.into(), at],
+        Err(refusal) => [3, refusal.number().into(), 0, refusal.place().unwrap_or(0)],
+    }
+}
+
+/// A session that has taken so many before: the low half of word 32, which is the guard's own and known to this test alone, is the count.
+fn late(book: &Book, before: u32) -> Session<&Book> {
+    let mut words = book.session().words();
+    words[32] = words[32] >> 32 << 32 | u64::from(before);
+    Session::resume(book, words)
+}
+
+/// Plays the list and answers how many observations it had.
+fn hold_session(number: u32, book: &Book, before: u32, bytes: &mut Bytes) -> u32 {
+    let mut session = if before == 0 { book.session() } else { late(book, before) };
+    let count = bytes.two();
+    for i in 0..count {
+        let (clock, name, time, due) = (bytes.one(), bytes.four(), bytes.four(), bytes.answer());
+        let words = session.words();
+        let answer = if clock == 1 { session.clock(time) } else { session.event(name, time) };
+        assert_eq!(numbers(answer), due, "case {number}, observation {i}");
+        assert!(answer.is_ok() || session.words() == words, "case {number}: a refusal changed the monitor");
+    }
+    assert_eq!(numbers(Ok(session.verdict())), bytes.answer(), "case {number}, verdict");
+    assert_eq!(session.taken(), bytes.four(), "case {number}, taken");
+    count.into()
+}
+
+#[test]
+fn agree_with_the_reference() {
+    let file = file();
+    let mut bytes = Bytes(&file);
+    let (cases, mut opened, mut observations) = (bytes.four(), 0, 0);
+    for number in 0..cases {
+        let before = bytes.four();
+        let (sheet, log, budget) = (bytes.slice(), bytes.slice(), bytes.four());
+        let due = [bytes.one().into(), bytes.one().into(), bytes.two().into(), bytes.four(), bytes.four()];
+        assert_eq!(run(sheet, log, budget).numbers(), due, "case {number}");
+        let due = bytes.answer();
+        match Book::open(sheet) {
+            Ok(book) => {
+                assert_eq!(due, [0; 4], "case {number}");
+                opened += 1;
+                observations += hold_session(number, &book, before, &mut bytes);
+            }
+            Err(refusal) => {
+                assert_eq!(numbers(Err(refusal)), due, "case {number}");
+                bytes.take(2 + 8 + 4); // no list
+            }
+        }
+    }
+    assert!(bytes.0.is_empty());
+    assert!(cases >= 10_000 && opened >= 5_000 && observations >= 50_000);
+}

@@ -1,0 +1,194 @@
+//! Sessions: several under one book, restarts, stored words, refusals that leave everything, the count's end, a stopped book, threads.
+
+mod common;
+
+use common::{N, R, T};
+use guard::{Book, Refusal, Session, Verdict};
+use std::sync::Arc;
+
+const OPEN: Result<Verdict, Refusal> = Ok(Verdict::Open { mask: 1 });
+
+fn refused_name() -> Result<Verdict, Refusal> {
+    Err(Refusal::NameUnknown { place: None })
+}
+
+fn refused_time() -> Result<Verdict, Refusal> {
+    Err(Refusal::TimeFalls { place: None })
+}
+
+#[test]
+fn two_sessions_under_one_book() {
+    let book = Book::open(&T).unwrap();
+    let (mut one, mut two) = (book.session(), book.session());
+    assert_eq!(one.event(0, 0), OPEN);
+    assert_eq!((two.verdict(), two.taken()), (Verdict::Whole, 0));
+    assert_eq!(one.event(0, 5), OPEN);
+    assert_eq!(two.event(1, 3), Ok(Verdict::Broken { at: 1, mask: 1 }));
+    assert_eq!(one.event(1, 15), Ok(Verdict::Whole));
+    assert_eq!((one.taken(), two.taken()), (3, 1));
+}
+
+#[test]
+fn a_restart_is_a_fresh_session() {
+    let book = Book::open(&T).unwrap();
+    let fresh = book.session().words();
+    let mut session = book.session();
+    assert_eq!(session.event(1, 7), Ok(Verdict::Broken { at: 1, mask: 1 }));
+    session.restart();
+    assert_eq!((session.words(), session.taken(), session.verdict()), (fresh, 0, Verdict::Whole));
+    assert_eq!(session.event(0, 0), OPEN);
+}
+
+#[test]
+fn a_session_goes_on_from_stored_words() {
+    let book = Book::open(&T).unwrap();
+    let mut session = book.session();
+    session.event(0, 0).unwrap();
+    session.event(0, 5).unwrap();
+    let words = session.words();
+    let mut copy = session.clone();
+    let again = Book::open(&T).unwrap();
+    let mut resumed = Session::resume(&again, words);
+    assert_eq!(resumed.taken(), 2);
+    assert_eq!(resumed.event(1, 16), Ok(Verdict::Broken { at: 3, mask: 1 }));
+    assert_eq!(copy.event(1, 15), Ok(Verdict::Whole));
+}
+
+/// "12 (a name of 64 or more), 11 (a time before the latest)": in this order, and nothing changes.
+#[test]
+fn a_refused_observation_changes_nothing() {
+    let book = Book::open(&R).unwrap();
+    let mut session = book.session();
+    assert_eq!(session.event(1, 5), OPEN);
+    let words = session.words();
+    for name in [64, 127, 128, 254, 255, 256, 257, 319, 65536, 1 << 31, u32::MAX] {
+        assert_eq!((session.event(name, 4), session.event(name, 6)), (refused_name(), refused_name()));
+    }
+    for time in 0..5 {
+        assert_eq!((session.event(0, time), session.clock(time)), (refused_time(), refused_time()));
+    }
+    assert_eq!(
+        (session.words(), session.taken(), session.verdict()),
+        (words, 1, Verdict::Open { mask: 1 })
+    );
+    assert_eq!(session.event(0, 5), OPEN);
+    assert_eq!(session.event(2, 5), Ok(Verdict::Whole));
+}
+
+/// "13, 4,294,967,295 already taken". That the low half of word 32 is the count is the guard's own, and known to this test alone.
+#[test]
+fn the_count_ends() {
+    let book = Book::open(&T).unwrap();
+    let mut session = book.session();
+    session.event(0, 7).unwrap();
+    let mut words = session.words();
+    words[32] = words[32] >> 32 << 32 | u64::from(u32::MAX - 1);
+    let mut session = Session::resume(&book, words);
+    assert_eq!(session.taken(), u32::MAX - 1);
+    assert_eq!(session.event(0, 8), OPEN);
+    assert_eq!(session.taken(), u32::MAX);
+    let words = session.words();
+    assert_eq!(
+        (session.event(0, 8), session.clock(9)),
+        (Err(Refusal::CountFull), Err(Refusal::CountFull))
+    );
+    assert_eq!((session.event(64, 0), session.event(0, 7)), (refused_name(), refused_time()));
+    assert_eq!((session.words(), session.verdict()), (words, Verdict::Open { mask: 1 }));
+}
+
+/// "A stopped book gives that same answer to every later observation, unchecked."
+#[test]
+fn a_stopped_book_answers_the_same() {
+    let book = Book::open(&N).unwrap();
+    let mut session = book.session();
+    let broken = Ok(Verdict::Broken { at: 1, mask: 1 });
+    assert_eq!(session.event(2, 50), broken);
+    let words = session.words();
+    assert_eq!(
+        (session.event(64, 50), session.event(0, 49), session.clock(0), session.event(0, 60)),
+        (broken, broken, broken, broken)
+    );
+    assert_eq!((session.words(), session.taken()), (words, 1));
+    assert!(session.verdict().is_broken());
+}
+
+#[test]
+fn refused_sheets() {
+    let refusal = |sheet: &[u8]| Book::open(sheet).unwrap_err();
+    let with = |at: usize, byte: u8| {
+        let mut sheet = R;
+        sheet[at] = byte;
+        refusal(&sheet)
+    };
+    assert_eq!(refusal(&R[..33]), Refusal::Truncated { place: 32 });
+    assert_eq!(with(1, 0), Refusal::Mark { place: 0 });
+    assert_eq!(with(4, 1), Refusal::Version { place: 3 });
+    assert_eq!(with(13, 17), Refusal::Value { place: 13 });
+    assert_eq!(with(16, 9), Refusal::NotZero { place: 16 });
+    assert_eq!(with(17, 70), Refusal::Name { place: 17 });
+    assert_eq!(with(25, 0), Refusal::Bounds { place: 25 });
+    assert_eq!(with(29, 0), Refusal::NameTwice { place: 29 });
+    assert_eq!(with(5, 4), Refusal::Direction { place: 17 });
+    assert_eq!(refusal(&[&R[..], &[0]].concat()), Refusal::LeftOver { place: 34 });
+}
+
+/// A session that owns its book, moved to another thread, and many threads under one book.
+#[test]
+fn threads() {
+    let book = Arc::new(Book::open(&T).unwrap());
+    let threads: Vec<_> = (0..8)
+        .map(|late| {
+            let mut session = Session::under(Arc::clone(&book));
+            std::thread::spawn(move || {
+                session.event(0, 0)?;
+                session.event(0, 5)?;
+                session.event(1, 12 + late)
+            })
+        })
+        .collect();
+    for (late, thread) in threads.into_iter().enumerate() {
+        let verdict = if late <= 3 { Verdict::Whole } else { Verdict::Broken { at: 3, mask: 1 } };
+        assert_eq!(thread.join().unwrap(), Ok(verdict));
+    }
+}
+
+/// Nothing is kept from call to call but in a book and a monitor: books opened in many threads at once are each their own.
+#[test]
+fn books_opened_at_once() {
+    let open_many = |odd: usize| {
+        for i in 0..1000 {
+            let (sheet, name, due): (&[u8], _, _) = if i % 2 == odd {
+                (&T, 0, OPEN)
+            } else {
+                (&N, 2, Ok(Verdict::Broken { at: 1, mask: 1 }))
+            };
+            assert_eq!(Book::open(sheet).unwrap().session().event(name, 3), due);
+        }
+    };
+    std::thread::scope(|scope| {
+        for thread in 0..4 {
+            scope.spawn(move || open_many(thread % 2));
+        }
+    });
+}
+
+/// "For a table or monitor that these calls didn't make, or a monitor opened for another book, the verdict is free; the call still returns".
+#[test]
+fn words_of_no_session() {
+    let book = Book::open(&R).unwrap();
+    let mut state = 1u64;
+    for round in 0..2000u32 {
+        let mut words = Book::open(&T).unwrap().session().words();
+        for word in words.iter_mut().skip(round as usize % 34) {
+            state = state.wrapping_mul(6364136223846793005).wrapping_add(1442695040888963407);
+            *word = state.rotate_left(round);
+        }
+        let mut session = Session::resume(&book, words);
+        let _ = (session.verdict(), session.taken());
+        for time in [0, 5, u32::MAX] {
+            let _ = (session.event(round % 70, time), session.clock(time));
+        }
+        session.restart();
+        assert_eq!(session.words(), book.session().words());
+    }
+}

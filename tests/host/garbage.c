@@ -1,0 +1,163 @@
+/* Books and monitors that the calls did not make. "For a table or monitor that these calls didn't make, or a monitor opened for another book, the verdict is free; the call
+ * still returns and touches nothing but the monitor." The book can't be written meanwhile, and both end or start at a page's edge. */
+#include "host.h"
+
+#define ROUNDS 6000
+#define OBSERVATIONS 64
+
+/* how the bytes of a book or a monitor come about */
+enum source { REAL, OTHER, MUTATED, RANDOM, SMALL, EVERY_BIT, SOURCES };
+
+static const struct reference_case *some_sheet(void)
+{
+    const struct reference_case *c;
+    do
+        c = &cases[below((uint32_t)case_count)];
+    while (!opens(c));
+    return c;
+}
+
+/* Single bits, bytes and small values, a few of them. */
+static void mutate(uint8_t *bytes, size_t length)
+{
+    for (uint32_t n = 1 + below(8); n > 0; n--) {
+        uint8_t *b = &bytes[below((uint32_t)length)];
+        switch (below(4)) {
+        case 0:
+            *b ^= (uint8_t)(1u << below(8));
+            break;
+        case 1:
+            *b = (uint8_t)number();
+            break;
+        case 2:
+            *b = 0xFF;
+            break;
+        default:
+            *b = (uint8_t)(*b + below(3));
+        }
+    }
+}
+
+static void make(enum source source, uint8_t *bytes, size_t length, const void *other)
+{
+    if (source == OTHER)
+        memcpy(bytes, other, length);
+    else if (source == MUTATED)
+        mutate(bytes, length);
+    else if (source == RANDOM)
+        scramble(bytes, length);
+    else if (source == EVERY_BIT)
+        memset(bytes, below(2) ? 0xFF : 0, length);
+    else if (source == SMALL)
+        for (size_t i = 0; i < length; i++)
+            bytes[i] = (uint8_t)(below(4) ? below(10) : 0);
+}
+
+static struct observation some_observation(uint32_t *time)
+{
+    struct observation o = {below(4) == 0, below(8) ? below(64) : (uint32_t)number(), *time, {0, 0, 0, 0}};
+    if (below(3) == 0)
+        *time += below(20);
+    if (below(16) == 0)
+        *time = below(2) ? ALL : (uint32_t)number();
+    o.time = *time;
+    return o;
+}
+
+/* An answer is one of the four, and has a refusal's number if it is a refusal, and else none. */
+static long wrong_answer(guard_answer a)
+{
+    return a.answer > GUARD_REFUSED || (a.answer == GUARD_REFUSED) != (a.refusal != 0) || a.refusal > GUARD_OUTPUT;
+}
+
+struct desk {
+    struct pages books, monitors;
+    guard_book *book;
+    guard_monitor *monitor;
+};
+
+/* What stands around the monitor between the forbidden pages. */
+static long wrong_around(const struct desk *d)
+{
+    const uint8_t *first = (const uint8_t *)d->monitor, *last = first + sizeof *d->monitor;
+    for (const uint8_t *b = d->monitors.start; b < d->monitors.end; b++)
+        if ((b < first || b >= last) && *b != 0x5A)
+            return 1;
+    return 0;
+}
+
+/* A book and a monitor of these sources. The monitor has seen a part of its sheet's list, so that its rules are under way. */
+static void prepare(const struct desk *d, enum source of_book, enum source of_monitor)
+{
+    static guard_book other_book;
+    guard_monitor other;
+    const struct reference_case *c = some_sheet(), *another = some_sheet();
+    writable(d->books);
+    memset(d->monitors.start, 0x5A, (size_t)(d->monitors.end - d->monitors.start));
+    guard_open(&other_book, &other, another->sheet, another->sheet_length);
+    guard_open(d->book, d->monitor, c->sheet, c->sheet_length);
+    for (size_t i = 0; i < c->count / 2; i++)
+        observe(d->book, d->monitor, observation_of(c, i));
+    for (size_t i = 0; i < another->count / 2; i++)
+        observe(&other_book, &other, observation_of(another, i));
+    make(of_book, (uint8_t *)d->book, sizeof *d->book, &other_book);
+    make(of_monitor, (uint8_t *)d->monitor, sizeof *d->monitor, &other);
+    read_only(d->books);
+}
+
+struct tally {
+    long observations, looks, wrong_answers, wrong_touches, wrong_looks, answers[4];
+};
+
+/* The verdict, which is whole, open or broken, and the count are read, and the monitor stays; then a fresh start from whatever book it is. */
+static void look(const struct desk *d, struct tally *n)
+{
+    guard_monitor old = *d->monitor;
+    guard_answer before = guard_verdict(d->monitor);
+    (void)guard_taken(d->monitor);
+    n->wrong_touches += memcmp(&old, d->monitor, sizeof old) != 0;
+    guard_start(d->book, d->monitor);
+    guard_answer after = guard_verdict(d->monitor);
+    n->looks++;
+    if (before.answer > GUARD_BROKEN || before.refusal != 0 || after.answer > GUARD_BROKEN || after.refusal != 0)
+        n->wrong_looks += differs("a verdict of garbage", n->observations);
+}
+
+static void play(const struct desk *d, struct tally *n)
+{
+    static guard_book old;
+    uint32_t time = 0;
+    old = *d->book;
+    for (int k = 0; k < OBSERVATIONS; k++, n->observations++) {
+        guard_answer a = observe(d->book, d->monitor, some_observation(&time));
+        if (wrong_answer(a))
+            n->wrong_answers += differs("an answer to garbage", n->observations);
+        else
+            n->answers[a.answer]++;
+        if (k == OBSERVATIONS / 2)
+            look(d, n);
+    }
+    if (memcmp(&old, d->book, sizeof old) != 0 || wrong_around(d))
+        n->wrong_touches += differs("garbage, a byte outside the monitor", n->observations);
+}
+
+void check_garbage(void)
+{
+    struct tally n;
+    memset(&n, 0, sizeof n);
+    struct desk d = {pages_for(sizeof(guard_book)), pages_for(sizeof(guard_monitor)), NULL, NULL};
+    for (int round = 0; round < ROUNDS; round++) {
+        int at_end = round % 2;
+        d.book = (void *)edge(d.books, at_end, sizeof *d.book);
+        d.monitor = (void *)edge(d.monitors, at_end, sizeof *d.monitor);
+        prepare(&d, (enum source)(round / 2 % SOURCES), (enum source)(round / 2 / SOURCES % SOURCES));
+        play(&d, &n);
+    }
+    tell("garbage books and monitors, observations answered", n.observations, n.wrong_answers);
+    tell("garbage books and monitors, nothing touched but the monitor", n.observations, n.wrong_touches);
+    tell("garbage books and monitors, verdicts and fresh starts", n.looks, n.wrong_looks);
+    long kinds = 0;
+    for (int a = 0; a < 4; a++)
+        kinds += n.answers[a] >= 1000;
+    tell("kinds of answers to garbage, each a thousand times", kinds, 4 - kinds);
+}

@@ -1,0 +1,27 @@
+// include/guard.h from C++: its sizes, its calls and a session of rule R, document 01's printed case.
+#include "../../include/guard.h"
+
+#include <cstdio>
+
+static_assert(sizeof(guard_book) == 19200 && sizeof(guard_monitor) == 272 && sizeof(guard_answer) == 8, "the sizes that guard.h gives");
+
+int main()
+{
+    const uint8_t sheet[34] = {0x4C, 0x4F, 0x42, 1, 0, 0, 0, 0, 0, 0, 0, 0, 0, 1, 1, 1, 0, 2, 0, 0, 0, 0, 0, 2, 0, 1, 0, 1, 0, 1, 1, 0, 1, 0};
+    static guard_book book;
+    guard_monitor monitor;
+    int wrong = guard_open(&book, &monitor, sheet, sizeof sheet).answer != GUARD_WHOLE;
+    wrong += guard_event(&book, &monitor, 1, 5).answer != GUARD_OPEN;
+    wrong += guard_event(&book, &monitor, 0, 5).mask != 1;
+    wrong += guard_event(&book, &monitor, 2, 4).refusal != GUARD_TIME_FALLS;
+    wrong += guard_event(&book, &monitor, 2, 9).answer != GUARD_WHOLE;
+    wrong += guard_clock(&book, &monitor, 10).answer != GUARD_WHOLE;
+    wrong += guard_event(&book, &monitor, 2, 10).place != 5;
+    wrong += guard_verdict(&monitor).answer != GUARD_BROKEN || guard_taken(&monitor) != 5;
+    guard_start(&book, &monitor);
+    wrong += guard_taken(&monitor) != 0;
+    uint8_t out[GUARD_OUTPUT_BYTES];
+    wrong += guard_run(sheet, sizeof sheet, nullptr, 0, 1, out, sizeof out) != 0 || out[0] != GUARD_WHOLE;
+    std::printf("guard.h from C++: %s\n", wrong ? "NOT AS DUE" : "10 as due");
+    return wrong != 0;
+}

@@ -1,0 +1,87 @@
+/* Sheets by hand: each refusal of "Where each refusal is found" with its place, by guard_open and by guard_run. The sheets are rule R's and rule T's with one byte changed. */
+#include "host.h"
+
+struct opening {
+    const uint8_t *sheet;
+    size_t length, at;
+    uint8_t byte, refusal;
+    uint32_t place;
+};
+
+#define T sheet_t, T_BYTES
+#define R sheet_r, R_BYTES
+
+static const struct opening openings[] = {
+    {R, 0, 0x4C, 0, 0},
+    {T, 0, 0x4C, 0, 0},
+    {R, 2, 0x43, 2, 0},    /* mark */
+    {R, 3, 2, 3, 3},       /* version 2 */
+    {R, 4, 1, 3, 3},       /* version 257 */
+    {R, 13, 0, 4, 13},     /* no rule */
+    {R, 13, 17, 4, 13},    /* seventeen */
+    {R, 14, 3, 4, 14},     /* kind */
+    {R, 15, 0, 4, 15},     /* fragments in P */
+    {R, 15, 9, 4, 15},
+    {T, 16, 0, 4, 16},     /* fragments in Q, kind 2 */
+    {R, 22, 2, 4, 22},     /* join */
+    {R, 23, 0, 4, 23},     /* ranges */
+    {R, 23, 9, 4, 23},
+    {R, 16, 9, 5, 16},     /* "a Q count of 9 in kind 1 is 5" */
+    {T, 17, 70, 5, 17},    /* "a trigger of 70 in kind 2 is 5" */
+    {R, 21, 1, 5, 18},     /* t in kind 1 */
+    {R, 17, 64, 6, 17},    /* trigger */
+    {R, 24, 64, 6, 24},    /* range's name */
+    {R, 25, 0, 7, 25},     /* u is 0 */
+    {R, 27, 0, 7, 27},     /* v < u */
+    {R, 29, 0, 8, 29},     /* a name twice */
+    {R, 24, 2, 8, 24},     /* trigger and range */
+    {T, 31, 0, 8, 31},     /* P and Q: 8 comes before 9 */
+    {R, 5, 4, 9, 17},      /* the trigger is an output */
+    {T, 5, 0, 9, 31},      /* a name of Q is an input */
+    {T, 5, 3, 0, 0},       /* "a trigger of 0 in kind 2 is right even if name 0 is an output" */
+    {R, 13, 2, 1, R_BYTES} /* a second rule is not there */
+};
+
+/* Both calls on one sheet: the refusal and its place, or a whole book. */
+static long wrong_sheet(const uint8_t *sheet, size_t length, uint8_t refusal, uint32_t place)
+{
+    static guard_book book;
+    guard_monitor monitor;
+    guard_answer due = answer(refusal ? GUARD_REFUSED : GUARD_WHOLE, refusal, 0, place);
+    const uint8_t bytes[12] = {due.answer, refusal, 0, 0, 0, 0, 0, 0, (uint8_t)place, (uint8_t)(place >> 8), 0, 0};
+    uint8_t out[12];
+    uint32_t returned = guard_run(sheet, length, NULL, 0, ALL, out, 12);
+    return !same_answer(guard_open(&book, &monitor, sheet, length), due) || returned != 0 || memcmp(out, bytes, 12) != 0;
+}
+
+/* "1 field doesn't fit in the bytes left", at the field's offset: each beginning of rule R's sheet. */
+static void check_cut_off(void)
+{
+    static const uint8_t fields[] = {0, 3, 5, 13, 14, 15, 16, 17, 18, 22, 23, 24, 25, 27, 29, 30, 32, R_BYTES};
+    long wrong = wrong_sheet(NULL, 0, GUARD_TRUNCATED, 0);
+    for (uint32_t length = 0, field = 0; length < R_BYTES; length++) {
+        field += length == fields[field + 1];
+        if (wrong_sheet(sheet_r, length, GUARD_TRUNCATED, fields[field]))
+            wrong += differs("a sheet cut off", length);
+    }
+    tell("sheets cut off", R_BYTES + 1, wrong);
+}
+
+void check_openings(void)
+{
+    long count = 0, wrong = 0;
+    for (size_t i = 0; i < sizeof openings / sizeof *openings; i++, count++) {
+        const struct opening *o = &openings[i];
+        uint8_t sheet[T_BYTES];
+        memcpy(sheet, o->sheet, o->length);
+        sheet[o->at] = o->byte;
+        if (wrong_sheet(sheet, o->length, o->refusal, o->place))
+            wrong += differs("a sheet by hand", (long)i);
+    }
+    uint8_t longer[R_BYTES + 3] = {0};
+    memcpy(longer, sheet_r, R_BYTES);
+    for (size_t length = R_BYTES + 1; length <= sizeof longer; length++, count++)
+        wrong += wrong_sheet(longer, length, GUARD_LEFT_OVER, R_BYTES);
+    tell("sheets by hand", count, wrong);
+    check_cut_off();
+}

@@ -1,0 +1,222 @@
+/* Buffers at a page's edge. Each stands between two pages that can't be touched, once so that it ends at the one and once so that it starts right after the other: a read or
+ * a write outside ends the program. What the guard only reads can't be written meanwhile. */
+#define _DEFAULT_SOURCE
+#include "host.h"
+
+#include <signal.h>
+#include <sys/mman.h>
+#include <sys/wait.h>
+#include <unistd.h>
+
+/* ---- memory */
+
+static void need(int right, const char *what)
+{
+    if (!right) {
+        perror(what);
+        exit(2);
+    }
+}
+
+struct pages pages_for(size_t length)
+{
+    size_t page = (size_t)sysconf(_SC_PAGESIZE), room = (length + page - 1) / page * page;
+    uint8_t *all = mmap(NULL, room + 2 * page, PROT_NONE, MAP_PRIVATE | MAP_ANONYMOUS, -1, 0);
+    need(all != MAP_FAILED, "mmap");
+    struct pages p = {all + page, all + page + room};
+    writable(p);
+    return p;
+}
+
+uint8_t *edge(struct pages p, int at_end, size_t length)
+{
+    return at_end ? p.end - length : p.start;
+}
+
+void read_only(struct pages p)
+{
+    need(mprotect(p.start, (size_t)(p.end - p.start), PROT_READ) == 0, "mprotect");
+}
+
+void writable(struct pages p)
+{
+    need(mprotect(p.start, (size_t)(p.end - p.start), PROT_READ | PROT_WRITE) == 0, "mprotect");
+}
+
+/* Bytes at an edge, which then can only be read. */
+static const uint8_t *lend(struct pages p, int at_end, const uint8_t *bytes, size_t length)
+{
+    uint8_t *place = edge(p, at_end, length);
+    writable(p);
+    memcpy(place, bytes, length);
+    read_only(p);
+    return place;
+}
+
+/* A child touches the byte; it has to end by a signal. */
+static long wrong_touch(volatile uint8_t *byte, int write)
+{
+    int status;
+    fflush(stdout);
+    pid_t child = fork();
+    need(child >= 0, "fork");
+    if (child == 0) {
+        signal(SIGSEGV, SIG_DFL);
+        if (write)
+            *byte = 1;
+        else
+            (void)*byte;
+        _exit(0);
+    }
+    need(waitpid(child, &status, 0) == child, "waitpid");
+    return !WIFSIGNALED(status);
+}
+
+/* What the checks below rest on: a touch outside is noticed, and so is a write to what is read only. */
+static void check_edges(void)
+{
+    struct pages p = pages_for(10);
+    long wrong = wrong_touch(p.start - 1, 0) + wrong_touch(p.end, 0) + wrong_touch(p.start - 1, 1) + wrong_touch(p.end, 1);
+    read_only(p);
+    tell("page edges that are noticed", 5, wrong + wrong_touch(p.start, 1));
+}
+
+/* ---- the cases at the edges */
+
+static void check_cases_at_edges(void)
+{
+    struct pages sheets = pages_for(8192), logs = pages_for(65536), outs = pages_for(64), books = pages_for(sizeof(guard_book)), monitors = pages_for(sizeof(guard_monitor));
+    long count[2] = {0, 0}, wrong[2] = {0, 0};
+    for (size_t i = 0; i < case_count; i++)
+        for (int at_end = 0; at_end < 2; at_end++) {
+            const struct reference_case *c = &cases[i];
+            const uint8_t *sheet = lend(sheets, at_end, c->sheet, c->sheet_length), *log = lend(logs, at_end, c->log, c->log_length);
+            size_t out_length = 12 + i % 3;
+            guard_book *book = (void *)edge(books, at_end, sizeof *book);
+            guard_monitor *monitor = (void *)edge(monitors, at_end, sizeof *monitor);
+            writable(books);
+            long bad = wrong_by_log(c, sheet, log, edge(outs, at_end, out_length), out_length) + wrong_opened(c, sheet, book, monitor);
+            read_only(books);
+            if (opens(c))
+                bad += wrong_live(c, book, monitor);
+            count[at_end]++;
+            if (bad)
+                wrong[at_end] += differs("a case at a page's edge", (long)i);
+        }
+    tell("cases whose sheet, log, output, book and monitor start right after a forbidden page", count[0], wrong[0]);
+    tell("cases whose sheet, log, output, book and monitor end at a forbidden page", count[1], wrong[1]);
+}
+
+/* Outputs that are too short, at the edge. */
+static void check_short_outputs(void)
+{
+    struct pages outs = pages_for(64);
+    long count = 0, wrong = 0;
+    for (size_t length = 0; length < 12; length++)
+        for (int at_end = 0; at_end < 2; at_end++, count++)
+            wrong += guard_run(sheet_t, T_BYTES, NULL, 0, ALL, edge(outs, at_end, length), length) != 15;
+    tell("short outputs at a page's edge", count, wrong);
+}
+
+/* ---- each array of a book at an edge of its own, so that none of them hides a read outside another */
+
+enum { HEADS, FRAGMENTS, NAMES, RANGES, HOLDERS, ARRAYS };
+
+static const size_t sizes[ARRAYS] = {sizeof(uint64_t[16]), sizeof(uint16_t[256]), sizeof(uint64_t[256]), sizeof(uint64_t[2048]), sizeof(uint16_t[64])};
+
+struct lent {
+    struct pages arrays[ARRAYS], monitors;
+    uint64_t *heads, *names, *ranges, *monitor;
+    uint16_t *fragments, *holders;
+};
+
+static struct lent lent_at(int at_end)
+{
+    struct lent l;
+    for (int a = 0; a < ARRAYS; a++)
+        l.arrays[a] = pages_for(sizes[a]);
+    l.monitors = pages_for(sizeof(guard_monitor));
+    l.heads = (void *)edge(l.arrays[HEADS], at_end, sizes[HEADS]);
+    l.fragments = (void *)edge(l.arrays[FRAGMENTS], at_end, sizes[FRAGMENTS]);
+    l.names = (void *)edge(l.arrays[NAMES], at_end, sizes[NAMES]);
+    l.ranges = (void *)edge(l.arrays[RANGES], at_end, sizes[RANGES]);
+    l.holders = (void *)edge(l.arrays[HOLDERS], at_end, sizes[HOLDERS]);
+    l.monitor = (void *)edge(l.monitors, at_end, sizeof(guard_monitor));
+    return l;
+}
+
+static guard_answer observe_lent(const struct lent *l, struct observation o)
+{
+    return guard_answer_of(o.clock ? guard_lent_clock(l->heads, l->fragments, l->names, l->ranges, l->holders, l->monitor, o.time)
+                                   : guard_lent_event(l->heads, l->fragments, l->names, l->ranges, l->holders, l->monitor, o.name, o.time));
+}
+
+static long wrong_lent(const struct reference_case *c, const struct lent *l)
+{
+    for (int a = 0; a < ARRAYS; a++)
+        writable(l->arrays[a]);
+    guard_answer opened = guard_answer_of(guard_lent_open(c->sheet, c->sheet_length, l->heads, l->fragments, l->names, l->ranges, l->holders, l->monitor));
+    long wrong = !same_answer(opened, c->opened);
+    if (!opens(c))
+        return wrong;
+    for (int a = 0; a < ARRAYS; a++)
+        read_only(l->arrays[a]);
+    guard_lent_start(l->fragments, l->monitor);
+    for (size_t i = 0; c->before == 0 && i < c->count; i++)
+        wrong += !same_answer(observe_lent(l, observation_of(c, i)), observation_of(c, i).due);
+    read_only(l->monitors);
+    wrong += c->before == 0 && (!same_answer(guard_answer_of(guard_lent_verdict(l->monitor)), c->verdict) || guard_lent_taken(l->monitor) != c->taken);
+    writable(l->monitors);
+    return wrong;
+}
+
+static void check_arrays_at_edges(void)
+{
+    long count = 0, wrong = 0;
+    for (int at_end = 0; at_end < 2; at_end++) {
+        struct lent l = lent_at(at_end);
+        for (size_t i = (size_t)at_end; i < case_count; i += 2, count++)
+            if (wrong_lent(&cases[i], &l))
+                wrong += differs("a case with each array at a page's edge", (long)i);
+    }
+    tell("cases with each of a book's arrays at a page's edge of its own", count, wrong);
+}
+
+/* ---- what a run does not look at */
+
+/* "It looks at no record after such a stop or after the budget": the records that it looks at stand at a page's end, and the log goes on in pages that can't be read. "above
+ * 4,294,967,295 bytes" is found "before any record". */
+static void check_unread(void)
+{
+    const size_t most = ALL, room = 65536;
+    uint8_t *all = mmap(NULL, room + most + 4096, PROT_NONE, MAP_PRIVATE | MAP_ANONYMOUS | MAP_NORESERVE, -1, 0), *unread = all + room, out[12];
+    need(all != MAP_FAILED && mprotect(all, room, PROT_READ | PROT_WRITE) == 0, "mmap");
+    long count = 0, wrong = 0;
+    for (size_t i = 0; i < case_count; i++) {
+        const struct reference_case *c = &cases[i];
+        int refused = c->due[0] == GUARD_REFUSED, stopped = refused || c->due[0] == GUARD_BROKEN;
+        uint32_t taken = four_bytes(c->due + 4);
+        size_t length = 5 * ((size_t)taken + (size_t)refused);
+        if (!opens(c) || c->due[1] == GUARD_LOG_LENGTH)
+            continue;
+        memcpy(unread - length, c->log, length);
+        count++;
+        if (guard_run(c->sheet, c->sheet_length, unread - length, most - most % 5, stopped ? ALL : taken, out, 12) != 0 || memcmp(out, c->due, 12) != 0)
+            wrong += differs("a case's records looked at", (long)i);
+    }
+    tell("logs of 4,294,967,295 bytes, no record read after the stop or the budget", count, wrong);
+    wrong = 0;
+    for (size_t length = most + 1; length <= most + 5; length++)
+        wrong += guard_run(sheet_t, T_BYTES, unread, length, ALL, out, 12) != 0 || memcmp(out, (const uint8_t[12]){3, 14}, 12) != 0;
+    tell("longer logs, 14 and no record read", 5, wrong);
+    munmap(all, room + most + 4096);
+}
+
+void check_pages(void)
+{
+    check_edges();
+    check_cases_at_edges();
+    check_short_outputs();
+    check_arrays_at_edges();
+    check_unread();
+}
