@@ -367,49 +367,58 @@ enum Verdict {
     Broken,
 }
 
-enum Observation {
-    Event(u32, u32),
-    Clock(u32),
+/// A verdict, with the mask of the open rules or of those that broke.
+#[derive(Clone, Copy)]
+struct Answer {
+    verdict: Verdict,
+    mask: u16,
 }
 
 pub struct Monitor {
     rules: [RuleState; RULES],
     taken: u32,
     latest: u32,
-    verdict: Verdict,
-    /// The open rules, or those that broke.
-    mask: u16,
+    answer: Answer,
     /// The rules whose deadline runs.
     dues: u16,
 }
 
 impl Monitor {
     fn fresh(book: &Book) -> Monitor {
-        Monitor { rules: book.rules.each_ref().map(RuleState::fresh), taken: 0, latest: 0, verdict: Verdict::Whole, mask: 0, dues: 0 }
+        Monitor { rules: book.rules.each_ref().map(RuleState::fresh), taken: 0, latest: 0, answer: Answer { verdict: Verdict::Whole, mask: 0 }, dues: 0 }
     }
 
-    /// One observation: the refusal, or the verdict that the monitor then holds.
-    fn observe(&mut self, book: &Book, observation: Observation) -> Result<Verdict, u8> {
-        if self.verdict == Verdict::Broken {
-            return Ok(Verdict::Broken);
+    /// An event: the refusal, or the answer that the monitor then holds.
+    fn event(&mut self, book: &Book, name: u32, time: u32) -> Result<Answer, u8> {
+        if self.answer.verdict == Verdict::Broken {
+            return Ok(self.answer);
         }
-        let (concerned, name, time) = match observation {
-            Observation::Event(name, time) => (*book.holders.get(name as usize).ok_or(12)?, name as u8, time),
-            Observation::Clock(time) => (0, 0, time),
-        };
+        let concerned = *book.holders.get(name as usize).ok_or(12)?;
+        self.observe(book, concerned, name as u8, time)
+    }
+
+    fn clock(&mut self, book: &Book, time: u32) -> Result<Answer, u8> {
+        if self.answer.verdict == Verdict::Broken {
+            return Ok(self.answer);
+        }
+        self.observe(book, 0, 0, time)
+    }
+
+    fn observe(&mut self, book: &Book, concerned: u16, name: u8, time: u32) -> Result<Answer, u8> {
         if time < self.latest {
             return Err(11);
         }
         self.taken = self.taken.checked_add(1).ok_or(13)?;
         self.latest = time;
-        self.pass(book, concerned, name, time);
-        Ok(self.verdict)
+        let answer = self.pass(book, concerned, name, time);
+        self.answer = answer;
+        Ok(answer)
     }
 
     /// Only the rules that have the name or a deadline that runs are looked at; the others stay as they are.
-    fn pass(&mut self, book: &Book, concerned: u16, name: u8, time: u32) {
+    fn pass(&mut self, book: &Book, concerned: u16, name: u8, time: u32) -> Answer {
         let touched = concerned | self.dues;
-        let (mut broken, mut open, mut dues) = (0, self.mask & !touched, 0);
+        let (mut broken, mut open, mut dues) = (0, self.answer.mask & !touched, 0);
         let mut todo = touched;
         while todo != 0 {
             let r = todo.trailing_zeros() as usize;
@@ -434,15 +443,16 @@ impl Monitor {
             }
         }
         self.dues = dues;
-        (self.verdict, self.mask) = match (broken, open) {
-            (0, 0) => (Verdict::Whole, 0),
-            (0, _) => (Verdict::Open, open),
-            _ => (Verdict::Broken, broken),
-        };
+        match (broken, open) {
+            (0, 0) => Answer { verdict: Verdict::Whole, mask: 0 },
+            (0, mask) => Answer { verdict: Verdict::Open, mask },
+            (mask, _) => Answer { verdict: Verdict::Broken, mask },
+        }
     }
 
-    fn place(&self) -> u32 {
-        if self.verdict == Verdict::Broken { self.taken } else { 0 }
+    /// "Place is k for broken", and nothing is taken after a break.
+    fn place(&self, answer: Answer) -> u32 {
+        if answer.verdict == Verdict::Broken { self.taken } else { 0 }
     }
 }
 
@@ -479,17 +489,17 @@ fn play(book: &Book, log: &[u8], budget: u32) -> Outcome {
     let mut m = Monitor::fresh(book);
     for (i, record) in log.chunks_exact(5).take(budget as usize).enumerate() {
         let time = u32::from_le_bytes([record[1], record[2], record[3], record[4]]);
-        let observation = match record[0] {
-            0xFF => Observation::Clock(time),
-            name => Observation::Event(u32::from(name), time),
+        let answer = match record[0] {
+            0xFF => m.clock(book, time),
+            name => m.event(book, u32::from(name), time),
         };
-        match m.observe(book, observation) {
-            Err(refusal) => return Outcome { answer: REFUSED, refusal, mask: m.mask, taken: m.taken, place: 5 * i as u32 },
-            Ok(Verdict::Broken) => break,
+        match answer {
+            Err(refusal) => return Outcome { answer: REFUSED, refusal, mask: m.answer.mask, taken: m.taken, place: 5 * i as u32 },
+            Ok(answer) if answer.verdict == Verdict::Broken => break,
             Ok(_) => {}
         }
     }
-    Outcome { answer: m.verdict as u8, refusal: 0, mask: m.mask, taken: m.taken, place: m.place() }
+    Outcome { answer: m.answer.verdict as u8, refusal: 0, mask: m.answer.mask, taken: m.taken, place: m.place(m.answer) }
 }
 
 fn run(sheet: &[u8], log: &[u8], budget: u32) -> Outcome {
@@ -506,9 +516,9 @@ fn word(answer: u8, refusal: u8, mask: u16, place: u32) -> u64 {
     u64::from(answer) | u64::from(refusal) << 8 | u64::from(mask) << 16 | u64::from(place) << 32
 }
 
-fn answered(m: &mut Monitor, book: &Book, observation: Observation) -> u64 {
-    match m.observe(book, observation) {
-        Ok(verdict) => word(verdict as u8, 0, m.mask, m.place()),
+fn answered(m: &Monitor, answer: Result<Answer, u8>) -> u64 {
+    match answer {
+        Ok(answer) => word(answer.verdict as u8, 0, answer.mask, m.place(answer)),
         Err(refusal) => word(REFUSED, refusal, 0, 0),
     }
 }
@@ -556,17 +566,19 @@ pub unsafe extern "C" fn hand_rs_open(book: &mut MaybeUninit<Book>, m: &mut Mayb
 
 #[no_mangle]
 pub extern "C" fn hand_rs_event(book: &Book, m: &mut Monitor, name: u32, time: u32) -> u64 {
-    answered(m, book, Observation::Event(name, time))
+    let answer = m.event(book, name, time);
+    answered(m, answer)
 }
 
 #[no_mangle]
 pub extern "C" fn hand_rs_clock(book: &Book, m: &mut Monitor, time: u32) -> u64 {
-    answered(m, book, Observation::Clock(time))
+    let answer = m.clock(book, time);
+    answered(m, answer)
 }
 
 #[no_mangle]
 pub extern "C" fn hand_rs_verdict(m: &Monitor) -> u64 {
-    word(m.verdict as u8, 0, m.mask, m.place())
+    answered(m, Ok(m.answer))
 }
 
 #[no_mangle]
