@@ -1,4 +1,4 @@
-/* The three guards that are measured, behind one set of calls. */
+/* What is measured: the proved guard, the two written by hand, and a call that does nothing. */
 #ifndef CONTESTANTS_H
 #define CONTESTANTS_H
 
@@ -21,6 +21,18 @@ uint64_t hand_rs_clock(const hand_rs_book *book, hand_rs_monitor *m, uint32_t ti
 uint64_t hand_rs_verdict(const hand_rs_monitor *m);
 uint32_t hand_rs_taken(const hand_rs_monitor *m);
 
+/* bench/none.c: a guard that does nothing. */
+typedef struct none_book {
+    uint8_t none;
+} none_book;
+
+typedef struct none_monitor {
+    uint8_t none;
+} none_monitor;
+
+uint64_t none_event(const none_book *book, none_monitor *m, uint32_t name, uint32_t time);
+uint64_t none_clock(const none_book *book, none_monitor *m, uint32_t time);
+
 /* One book and one monitor of each. */
 typedef struct lent {
     guard_book guard_book;
@@ -29,6 +41,8 @@ typedef struct lent {
     hand_monitor hand_monitor;
     hand_rs_book hand_rs_book;
     hand_rs_monitor hand_rs_monitor;
+    none_book none_book;
+    none_monitor none_monitor;
 } lent;
 
 #endif
