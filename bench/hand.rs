@@ -52,12 +52,7 @@ struct Fragment {
 }
 
 impl Fragment {
-    const EMPTY: Fragment = Fragment {
-        names: Names(0),
-        join: Join::All,
-        count: 0,
-        ranges: [Range { name: 0, u: 1, v: 1 }; RANGES],
-    };
+    const EMPTY: Fragment = Fragment { names: Names(0), join: Join::All, count: 0, ranges: [Range { name: 0, u: 1, v: 1 }; RANGES] };
 
     fn push(&mut self, range: Range) {
         self.ranges[usize::from(self.count)] = range;
@@ -82,13 +77,7 @@ struct Rule {
 }
 
 impl Rule {
-    const EMPTY: Rule = Rule {
-        kind: Kind::Once,
-        in_p: 0,
-        in_round: 0,
-        limit: 0,
-        fragments: [Fragment::EMPTY; FRAGMENTS],
-    };
+    const EMPTY: Rule = Rule { kind: Kind::Once, in_p: 0, in_round: 0, limit: 0, fragments: [Fragment::EMPTY; FRAGMENTS] };
 }
 
 pub struct Book {
@@ -189,11 +178,7 @@ impl Reader<'_> {
     fn rule(&mut self) -> Result<Rule, Fault> {
         self.used = Names(0);
         let kind = [Kind::Once, Kind::Repeated, Kind::Timed][usize::from(self.between(0, 2)?)];
-        let mut rule = Rule {
-            kind,
-            in_p: self.between(1, 8)?,
-            ..Rule::EMPTY
-        };
+        let mut rule = Rule { kind, in_p: self.between(1, 8)?, ..Rule::EMPTY };
         self.heading(&mut rule)?;
         let in_sheet = if kind == Kind::Timed { rule.in_round } else { rule.in_p };
         for f in 0..in_sheet {
@@ -206,11 +191,7 @@ impl Reader<'_> {
         self.exactly(3, 0x424F4C, 2)?;
         self.exactly(2, 1, 3)?;
         self.outputs = Names(self.field(8, |_| 0)?);
-        let mut book = Book {
-            count: self.between(1, 16)?,
-            rules: [Rule::EMPTY; RULES],
-            holders: [0; NAMES],
-        };
+        let mut book = Book { count: self.between(1, 16)?, rules: [Rule::EMPTY; RULES], holders: [0; NAMES] };
         for r in 0..usize::from(book.count) {
             book.rules[r] = self.rule()?;
             for name in 0..NAMES as u8 {
@@ -225,13 +206,7 @@ impl Reader<'_> {
 }
 
 fn read(sheet: &[u8]) -> Result<Book, Fault> {
-    Reader {
-        sheet,
-        at: 0,
-        outputs: Names(0),
-        used: Names(0),
-    }
-    .book()
+    Reader { sheet, at: 0, outputs: Names(0), used: Names(0) }.book()
 }
 
 // ---- the recogniser of a range
@@ -300,12 +275,7 @@ impl RuleState {
     fn fresh(rule: &Rule) -> RuleState {
         let mut states = [State::Idle; RANGES];
         states[..rule.fragments[0].ranges().len()].fill(State::NotBegun);
-        RuleState {
-            fragment: 0,
-            states,
-            count: 0,
-            end: 0,
-        }
+        RuleState { fragment: 0, states, count: 0, end: 0 }
     }
 
     /// An event on a name of the fragment; false at a range's error.
@@ -336,20 +306,12 @@ impl RuleState {
 
     /// The fragment may be followed.
     fn complete(&self, fragment: &Fragment) -> bool {
-        fragment
-            .ranges()
-            .iter()
-            .zip(self.states)
-            .all(|(range, state)| state.closes(self.count, range.u, fragment.join))
+        fragment.ranges().iter().zip(self.states).all(|(range, state)| state.closes(self.count, range.u, fragment.join))
     }
 
     /// The fragment can take one more event.
     fn grows(&self, fragment: &Fragment) -> bool {
-        fragment
-            .ranges()
-            .iter()
-            .zip(self.states)
-            .any(|(range, state)| state.after_own(self.count, range.v) == State::Counting)
+        fragment.ranges().iter().zip(self.states).any(|(range, state)| state.after_own(self.count, range.v) == State::Counting)
     }
 
     fn late(&self, rule: &Rule, time: u32) -> bool {
@@ -423,16 +385,7 @@ pub struct Monitor {
 
 impl Monitor {
     fn fresh(book: &Book) -> Monitor {
-        Monitor {
-            rules: book.rules.each_ref().map(RuleState::fresh),
-            taken: 0,
-            latest: 0,
-            answer: Answer {
-                verdict: Verdict::Whole,
-                mask: 0,
-            },
-            dues: 0,
-        }
+        Monitor { rules: book.rules.each_ref().map(RuleState::fresh), taken: 0, latest: 0, answer: Answer { verdict: Verdict::Whole, mask: 0 }, dues: 0 }
     }
 
     /// An event: the refusal, or the answer that the monitor then holds.
@@ -491,10 +444,7 @@ impl Monitor {
         }
         self.dues = dues;
         match (broken, open) {
-            (0, 0) => Answer {
-                verdict: Verdict::Whole,
-                mask: 0,
-            },
+            (0, 0) => Answer { verdict: Verdict::Whole, mask: 0 },
             (0, mask) => Answer { verdict: Verdict::Open, mask },
             (mask, _) => Answer { verdict: Verdict::Broken, mask },
         }
@@ -524,13 +474,7 @@ const REFUSED: u8 = 3;
 
 impl Outcome {
     fn turned_away(refusal: u8, place: usize) -> Outcome {
-        Outcome {
-            answer: REFUSED,
-            refusal,
-            mask: 0,
-            taken: 0,
-            place: place as u32,
-        }
+        Outcome { answer: REFUSED, refusal, mask: 0, taken: 0, place: place as u32 }
     }
 
     fn bytes(&self) -> [u8; 12] {
@@ -554,26 +498,12 @@ fn play(book: &Book, log: &[u8], budget: u32) -> Outcome {
             name => m.event(book, u32::from(name), time),
         };
         match answer {
-            Err(refusal) => {
-                return Outcome {
-                    answer: REFUSED,
-                    refusal,
-                    mask: m.answer.mask,
-                    taken: m.taken,
-                    place: 5 * i as u32,
-                }
-            }
+            Err(refusal) => return Outcome { answer: REFUSED, refusal, mask: m.answer.mask, taken: m.taken, place: 5 * i as u32 },
             Ok(answer) if answer.verdict == Verdict::Broken => break,
             Ok(_) => {}
         }
     }
-    Outcome {
-        answer: m.answer.verdict as u8,
-        refusal: 0,
-        mask: m.answer.mask,
-        taken: m.taken,
-        place: m.place(m.answer),
-    }
+    Outcome { answer: m.answer.verdict as u8, refusal: 0, mask: m.answer.mask, taken: m.taken, place: m.place(m.answer) }
 }
 
 fn run(sheet: &[u8], log: &[u8], budget: u32) -> Outcome {
