@@ -1,0 +1,256 @@
+/* Measures the guards on the configurations of configurations.py. Prints lines of fields with tabs between them, which table.py puts into tables.
+ *   bench facts     each configuration: part, title, and the numbers that go with it
+ *   bench time      nanoseconds per record
+ *   bench count     under callgrind: one dump of counts for each measurement, whose label says what was done */
+#include "contestants.h"
+
+#include <stdbool.h>
+#include <stdio.h>
+#include <stdlib.h>
+#include <string.h>
+#include <time.h>
+#include <valgrind/callgrind.h>
+
+typedef struct configuration {
+    const char *part, *title;
+    const uint8_t *sheet;
+    size_t sheet_length;
+    const uint8_t *opening;
+    size_t opening_length;
+    const uint8_t *round;
+    size_t round_length;
+    int figure_ops, figure_bits, table_ops, table_bits; /* 0 where the paper has no such row */
+    int rules, tables_bits;
+} configuration;
+
+#include "configurations.h" /* made by configurations.py */
+
+enum { CONFIGURATIONS = sizeof configurations / sizeof *configurations, TIMED_RECORDS = 20000, REPETITIONS = 25, COUNTED_RECORDS = 600 };
+
+/* ---- logs */
+
+typedef struct record {
+    uint32_t name, time;
+} record;
+
+/* A log twice: as records for a session, and as the bytes that a run takes. */
+typedef struct log_of {
+    size_t count;
+    record *records;
+    uint8_t *bytes;
+} log_of;
+
+/* The opening and at least n more records, in whole rounds. */
+static log_of make_log(const configuration *c, size_t n)
+{
+    log_of log = {.count = c->opening_length + (n + c->round_length - 1) / c->round_length * c->round_length};
+    log.records = malloc(log.count * sizeof *log.records);
+    log.bytes = malloc(5 * log.count);
+    if (!log.records || !log.bytes)
+        abort();
+    for (size_t i = 0; i < log.count; i++) {
+        uint8_t name = i < c->opening_length ? c->opening[i] : c->round[(i - c->opening_length) % c->round_length];
+        log.records[i] = (record){name, (uint32_t)i};
+        log.bytes[5 * i] = name;
+        for (unsigned b = 0; b < 4; b++)
+            log.bytes[5 * i + 1 + b] = (uint8_t)(i >> 8 * b);
+    }
+    return log;
+}
+
+static void drop_log(log_of log)
+{
+    free(log.records);
+    free(log.bytes);
+}
+
+/* ---- what a host does with each guard */
+
+static unsigned guard_told(guard_answer a) { return a.answer; }
+static unsigned told(uint64_t word) { return (uint8_t)word; }
+
+/* A session's records one after the other, up to a break or a refusal: the number of calls made. */
+#define SESSION(id, told)                                                                                  \
+    static size_t id##_session(lent *l, const record *records, size_t count)                               \
+    {                                                                                                      \
+        size_t i = 0;                                                                                      \
+        for (; i < count; i++) {                                                                           \
+            uint32_t name = records[i].name, time = records[i].time;                                       \
+            unsigned answer = name == 0xFF ? told(id##_clock(&l->id##_book, &l->id##_monitor, time))       \
+                                           : told(id##_event(&l->id##_book, &l->id##_monitor, name, time)); \
+            if (answer >= GUARD_BROKEN)                                                                    \
+                break;                                                                                     \
+        }                                                                                                  \
+        return i;                                                                                          \
+    }
+
+#define OPENED(id, told)                                                      \
+    static unsigned id##_opened(lent *l, const uint8_t *sheet, size_t length) \
+    {                                                                         \
+        return told(id##_open(&l->id##_book, &l->id##_monitor, sheet, length)); \
+    }
+
+SESSION(guard, guard_told)
+SESSION(hand, told)
+SESSION(hand_rs, told)
+SESSION(none, told)
+OPENED(guard, guard_told)
+OPENED(hand, told)
+OPENED(hand_rs, told)
+
+static uint32_t none_run(const uint8_t *sheet, size_t sheet_length, const uint8_t *log, size_t log_length, uint32_t budget, uint8_t *out, size_t out_length)
+{
+    (void)sheet, (void)sheet_length, (void)log, (void)budget, (void)out_length;
+    memset(out, 0, 12);
+    memcpy(out + 4, &(uint32_t){(uint32_t)(log_length / 5)}, 4);
+    return 0;
+}
+
+static unsigned none_opened(lent *l, const uint8_t *sheet, size_t length)
+{
+    (void)l, (void)sheet, (void)length;
+    return GUARD_WHOLE;
+}
+
+typedef struct contestant {
+    const char *name;
+    uint32_t (*run)(const uint8_t *, size_t, const uint8_t *, size_t, uint32_t, uint8_t *, size_t);
+    unsigned (*open)(lent *, const uint8_t *, size_t);
+    size_t (*session)(lent *, const record *, size_t);
+} contestant;
+
+#define CONTESTANT(id) {#id, id##_run, id##_opened, id##_session}
+static const contestant contestants[] = {CONTESTANT(guard), CONTESTANT(hand), CONTESTANT(hand_rs), CONTESTANT(none)};
+enum { CONTESTANTS = sizeof contestants / sizeof *contestants };
+static lent memory;
+
+static void must(bool right, const contestant *by, const configuration *c)
+{
+    if (right)
+        return;
+    fprintf(stderr, "%s does not take the log of: %s\n", by->name, c->title);
+    exit(1);
+}
+
+static void run_log(const contestant *by, const configuration *c, log_of log)
+{
+    uint8_t out[12];
+    uint32_t taken;
+    must(by->run(c->sheet, c->sheet_length, log.bytes, 5 * log.count, UINT32_MAX, out, sizeof out) == 0, by, c);
+    memcpy(&taken, out + 4, 4);
+    must(out[0] <= GUARD_OPEN && taken == log.count, by, c);
+}
+
+static void open_session(const contestant *by, const configuration *c)
+{
+    must(by->open(&memory, c->sheet, c->sheet_length) == GUARD_WHOLE, by, c);
+}
+
+static void live(const contestant *by, const configuration *c, const record *records, size_t count)
+{
+    must(by->session(&memory, records, count) == count, by, c);
+}
+
+/* ---- time */
+
+static double now(void)
+{
+    struct timespec t;
+    clock_gettime(CLOCK_MONOTONIC, &t);
+    return (double)t.tv_sec * 1e9 + (double)t.tv_nsec;
+}
+
+/* Each repetition measures all contestants in turn, so that a busy machine is busy for all; the least time of each is kept. */
+static void time_configuration(unsigned number)
+{
+    const configuration *c = &configurations[number];
+    log_of log = make_log(c, TIMED_RECORDS);
+    double least[CONTESTANTS][2];
+    for (unsigned r = 0; r < REPETITIONS; r++)
+        for (unsigned k = 0; k < CONTESTANTS; k++) {
+            double start = now();
+            run_log(&contestants[k], c, log);
+            double middle = now();
+            open_session(&contestants[k], c);
+            double opened = now();
+            live(&contestants[k], c, log.records, log.count);
+            double spent[2] = {middle - start, now() - opened};
+            for (unsigned m = 0; m < 2; m++)
+                if (r == 0 || spent[m] < least[k][m])
+                    least[k][m] = spent[m];
+        }
+    for (unsigned k = 0; k < CONTESTANTS; k++)
+        printf("%u\t%s\t%.2f\t%.2f\n", number, contestants[k].name, least[k][0] / (double)log.count, least[k][1] / (double)log.count);
+    drop_log(log);
+}
+
+/* ---- counts: each label is contestant, configuration, what was done and the number of records, with spaces between them */
+
+static void dump(const contestant *by, unsigned number, const char *what, size_t records)
+{
+    char label[128];
+    snprintf(label, sizeof label, "%s %u %s %zu", by->name, number, what, records);
+    CALLGRIND_DUMP_STATS_AT(label);
+}
+
+/* Two lengths of each: their difference has no start-up in it. */
+static void count_means(const contestant *by, unsigned number)
+{
+    const configuration *c = &configurations[number];
+    for (size_t n = COUNTED_RECORDS; n <= 2 * COUNTED_RECORDS; n += COUNTED_RECORDS) {
+        log_of log = make_log(c, n);
+        CALLGRIND_ZERO_STATS;
+        run_log(by, c, log);
+        dump(by, number, "run", log.count);
+        open_session(by, c);
+        CALLGRIND_ZERO_STATS;
+        live(by, c, log.records, log.count);
+        dump(by, number, "live", log.count);
+        drop_log(log);
+    }
+}
+
+/* Each record of two rounds alone. */
+static void count_each(const contestant *by, unsigned number)
+{
+    const configuration *c = &configurations[number];
+    log_of log = make_log(c, 2 * c->round_length);
+    open_session(by, c);
+    for (size_t i = 0; i < log.count; i++) {
+        CALLGRIND_ZERO_STATS;
+        live(by, c, &log.records[i], 1);
+        dump(by, number, "each", i);
+    }
+    drop_log(log);
+}
+
+static void count_configuration(unsigned number)
+{
+    for (unsigned k = 0; k < CONTESTANTS; k++) {
+        count_means(&contestants[k], number);
+        if (strcmp(configurations[number].part, "paper") == 0)
+            count_each(&contestants[k], number);
+    }
+}
+
+static void facts(unsigned number)
+{
+    const configuration *c = &configurations[number];
+    printf("%u\t%s\t%s\t%d\t%d\t%d\t%d\t%d\t%d\n", number, c->part, c->title, c->figure_ops, c->figure_bits, c->table_ops, c->table_bits, c->rules, c->tables_bits);
+}
+
+int main(int argc, char **argv)
+{
+    static const struct {
+        const char *word;
+        void (*act)(unsigned);
+    } words[] = {{"facts", facts}, {"time", time_configuration}, {"count", count_configuration}};
+    for (unsigned w = 0; argc == 2 && w < 3; w++)
+        if (strcmp(argv[1], words[w].word) == 0) {
+            for (unsigned i = 0; i < CONFIGURATIONS; i++)
+                words[w].act(i);
+            return 0;
+        }
+    fprintf(stderr, "usage: bench facts|time|count\n");
+    return 2;
+}

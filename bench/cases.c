@@ -1,0 +1,155 @@
+/* Holds a guard to the stored cases of crates/vectors: its run of each log, and a live session over the same records. The format of the file is at the top of reference/make.py. */
+#include "contestants.h"
+
+#include <stdio.h>
+#include <stdlib.h>
+#include <string.h>
+
+typedef struct contestant {
+    const char *name;
+    uint32_t (*run)(const uint8_t *, size_t, const uint8_t *, size_t, uint32_t, uint8_t *, size_t);
+    uint64_t (*open)(lent *, const uint8_t *, size_t);
+    uint64_t (*event)(lent *, uint32_t, uint32_t);
+    uint64_t (*clock)(lent *, uint32_t);
+    uint64_t (*verdict)(const lent *);
+    uint32_t (*taken)(const lent *);
+} contestant;
+
+static uint64_t word(guard_answer a)
+{
+    return a.answer | (uint64_t)a.refusal << 8 | (uint64_t)a.mask << 16 | (uint64_t)a.place << 32;
+}
+
+static uint64_t itself(uint64_t word)
+{
+    return word;
+}
+
+/* The calls of one guard over the memory lent to it; `as` makes its answer one number. */
+#define CALLS(id, as)                                                                                                                         \
+    static uint64_t id##_opens(lent *l, const uint8_t *s, size_t n) { return as(id##_open(&l->id##_book, &l->id##_monitor, s, n)); }          \
+    static uint64_t id##_sees(lent *l, uint32_t name, uint32_t time) { return as(id##_event(&l->id##_book, &l->id##_monitor, name, time)); } \
+    static uint64_t id##_reads(lent *l, uint32_t time) { return as(id##_clock(&l->id##_book, &l->id##_monitor, time)); }                      \
+    static uint64_t id##_says(const lent *l) { return as(id##_verdict(&l->id##_monitor)); }                                                   \
+    static uint32_t id##_took(const lent *l) { return id##_taken(&l->id##_monitor); }
+
+#define CONTESTANT(id) {#id, id##_run, id##_opens, id##_sees, id##_reads, id##_says, id##_took}
+
+CALLS(guard, word)
+CALLS(hand, itself)
+CALLS(hand_rs, itself)
+
+static const contestant contestants[] = {CONTESTANT(guard), CONTESTANT(hand), CONTESTANT(hand_rs)};
+
+static uint32_t number(const uint8_t *p, size_t n)
+{
+    uint32_t x = 0;
+    while (n-- > 0)
+        x = x << 8 | p[n];
+    return x;
+}
+
+typedef struct test {
+    const uint8_t *sheet, *log, *due;
+    size_t sheet_length, log_length;
+    uint32_t budget;
+} test;
+
+static const uint8_t *next_case(const uint8_t *p, test *t)
+{
+    t->sheet_length = number(p, 2), t->sheet = p + 2, p += 2 + t->sheet_length;
+    t->log_length = number(p, 2), t->log = p + 2, p += 2 + t->log_length;
+    t->budget = number(p, 4), t->due = p + 4;
+    return p + 4 + 12 + 1;
+}
+
+static void twelve(uint8_t out[12], uint64_t said, uint16_t mask, uint32_t taken, uint32_t place)
+{
+    const uint32_t fields[5] = {(uint8_t)said, (uint8_t)(said >> 8), mask, taken, place};
+    const size_t sizes[5] = {1, 1, 2, 4, 4};
+    for (size_t f = 0; f < 5; f++)
+        for (size_t i = 0; i < sizes[f]; i++)
+            *out++ = (uint8_t)(fields[f] >> 8 * i);
+}
+
+/* The twelve bytes of a run, from a session's answers. Returns 0 if an answer is not what the session before it lets expect. */
+static int session(const contestant *c, lent *l, const test *t, uint8_t out[12])
+{
+    uint64_t said = c->open(l, t->sheet, t->sheet_length);
+    if (said != 0) {
+        twelve(out, said, 0, 0, (uint32_t)(said >> 32));
+        return 1;
+    }
+    if (t->log_length % 5 != 0) {
+        twelve(out, 3 | 14 << 8, 0, 0, 0);
+        return 1;
+    }
+    for (size_t at = 0; at < t->log_length && c->taken(l) < t->budget; at += 5) {
+        uint64_t before = c->verdict(l);
+        uint32_t taken = c->taken(l), time = number(t->log + at + 1, 4);
+        said = t->log[at] == 0xFF ? c->clock(l, time) : c->event(l, t->log[at], time);
+        if ((uint8_t)said == 3) {
+            twelve(out, said, (uint16_t)(before >> 16), taken, (uint32_t)at);
+            return said >> 16 == 0 && c->verdict(l) == before && c->taken(l) == taken;
+        }
+        if (said != c->verdict(l) || c->taken(l) != taken + 1)
+            return 0;
+        if ((uint8_t)said == 2) {
+            twelve(out, said, (uint16_t)(said >> 16), taken + 1, (uint32_t)(said >> 32));
+            return c->event(l, 99, 0) == said && c->clock(l, 0) == said && c->taken(l) == taken + 1;
+        }
+    }
+    said = c->verdict(l);
+    twelve(out, said, (uint16_t)(said >> 16), c->taken(l), (uint32_t)(said >> 32));
+    return 1;
+}
+
+static int agrees(const contestant *c, lent *l, const test *t)
+{
+    uint8_t out[16], live[12];
+    memset(out, 0xA5, sizeof out);
+    if (c->run(t->sheet, t->sheet_length, t->log, t->log_length, t->budget, out, 11) != 15 || out[0] != 0xA5)
+        return 0;
+    if (c->run(t->sheet, t->sheet_length, t->log, t->log_length, t->budget, out, sizeof out) != 0 || out[12] != 0xA5)
+        return 0;
+    return memcmp(out, t->due, 12) == 0 && session(c, l, t, live) && memcmp(live, t->due, 12) == 0;
+}
+
+static uint8_t *file_bytes(const char *path)
+{
+    FILE *f = fopen(path, "rb");
+    if (!f)
+        return NULL;
+    fseek(f, 0, SEEK_END);
+    size_t n = (size_t)ftell(f);
+    rewind(f);
+    uint8_t *bytes = malloc(n);
+    if (bytes && fread(bytes, 1, n, f) != n)
+        bytes = NULL;
+    fclose(f);
+    return bytes;
+}
+
+int main(int argc, char **argv)
+{
+    const uint8_t *cases = argc == 2 ? file_bytes(argv[1]) : NULL;
+    if (!cases)
+        return fprintf(stderr, "usage: cases CASES.BIN\n"), 2;
+    static lent l;
+    int failed = 0;
+    uint32_t count = number(cases, 4);
+    for (size_t c = 0; c < sizeof contestants / sizeof *contestants; c++) {
+        const uint8_t *p = cases + 8;
+        uint32_t right = 0;
+        for (uint32_t i = 0; i < count; i++) {
+            test t;
+            p = next_case(p, &t);
+            if (agrees(&contestants[c], &l, &t))
+                right++;
+            else if (!failed++)
+                fprintf(stderr, "%s: first at case %u\n", contestants[c].name, i);
+        }
+        printf("%s: %u of %u cases as due\n", contestants[c].name, right, count);
+    }
+    return failed != 0;
+}

@@ -1,0 +1,162 @@
+"""The configurations that are measured, as C: python3 configurations.py > configurations.h
+
+Each has a sheet, names that open the log once, and the names of one round, which follow again and again. Record i has
+the time i. A log never breaks a rule, so that no record is looked at by a stopped book.
+"""
+
+import os
+import sys
+from collections import namedtuple
+
+sys.dont_write_bytecode = True
+sys.path.insert(0, os.path.join(os.path.dirname(os.path.abspath(__file__)), '..', 'reference'))
+from guard import CLOCK, Fragment, Range, Rule, Sheet
+from sheets import written
+
+ONCE, REPEATED, TIMED = 0, 1, 2
+ALL, ANY = 0, 1
+FOREIGN = 63
+
+# figure and table: (operations, bits) that the papers give the direct monitor, Figure 6 of document 003 and Table 7.2 of document 000
+Configuration = namedtuple('Configuration', 'part title sheet opening round figure table', defaults=(None, None))
+
+
+def one(name, u=1, v=1):
+    return Fragment(ALL, (Range(name, u, v),))
+
+
+def some(join, *names):
+    return Fragment(join, tuple(Range(n, 1, 1) for n in names))
+
+
+def requirement(kind, p, trigger):
+    return Rule(kind, tuple(p), (), trigger, 0)
+
+
+def timed(p, q, t):
+    return Rule(TIMED, tuple(p), tuple(q), 0, t)
+
+
+def sheet(*rules):
+    """The names of every Q are outputs, and all others inputs."""
+    outputs = {r.name for rule in rules for f in rule.q for r in f.ranges}
+    return Sheet(sum(1 << n for n in outputs), rules)
+
+
+# ---------------------------------------------------------------------------------------------
+# 1 and 16 rules: one shape of each pattern, over four names a, b, c, d; its round is a b c c c d
+# ---------------------------------------------------------------------------------------------
+
+ROUND = (0, 1, 2, 2, 2, 3)
+BUSY = (0, 1)          # after these a deadline of the timed shape runs
+LONG = 0xFFFFFFFF      # a deadline that no log here reaches
+
+
+def required(a=0):
+    return requirement(REPEATED, (some(ALL, a, a + 1), one(a + 2, 2, 4)), a + 3)
+
+
+def within(a=0, t=1000):
+    return timed((some(ANY, a, a + 1),), (one(a + 2, 2, 4), one(a + 3)), t)
+
+
+def disjoint(shape):
+    """Sixteen rules with four names each; their rounds go side by side, so that every record concerns one of them in turn."""
+    return sheet(*(shape(4 * r) for r in range(16))), [4 * r + n for n in ROUND for r in range(16)]
+
+
+def general():
+    yield Configuration('general', '1 rule: ({a,b},∧) < c[2,4] ≪ d, repeated', sheet(required()), (), ROUND)
+    yield Configuration('general', '1 rule: ({a,b},∨) ⇒ c[2,4] < d, t', sheet(within()), (), ROUND)
+    yield Configuration('general', '4 rules of the case study: A2-, T1-, T2-, T3-LCDC', *case_study())
+    for text, shape in (('the first', required), ('the second', within)):
+        rules, names = disjoint(shape)
+        yield Configuration('general', '16 rules like %s, disjoint names' % text, rules, (), names)
+        yield Configuration('general', '16 rules like %s, the same names' % text, sheet(*[shape()] * 16), (), ROUND)
+
+
+def case_study():
+    """The liquid crystal display controller of document 000, section 3.4.3, with the least number of reads. T2's P joins the interrupts 1 and 3 by ∨:
+    from the second round on it takes both."""
+    set_addr, start, irq_neg = 0, 1, (2, 3, 4)
+    read, irq_pos = (5, 6, 7), (8, 9, 10)
+
+    def refresh(i):
+        return one(read[i], 100, 19000), one(irq_pos[i]), one(irq_neg[i])
+
+    rules = (requirement(ONCE, (one(set_addr),), start),
+             timed((one(set_addr), one(start)), refresh(0), 300),
+             timed((some(ANY, irq_neg[0], irq_neg[2]),), refresh(1), 300),
+             timed((one(irq_neg[1]),), refresh(2), 300))
+    names = [set_addr, start]
+    for i in range(3):
+        names += [read[i]] * 100 + [irq_pos[i], irq_neg[i]]
+    return sheet(*rules), (), names
+
+
+# ---------------------------------------------------------------------------------------------
+# The configurations of the papers
+# ---------------------------------------------------------------------------------------------
+
+def before(kind, *p):
+    """An ordering before the trigger, the name after P's."""
+    names = [r.name for f in p for r in f.ranges]
+    trigger = max(names) + 1
+    return sheet(requirement(kind, p, trigger)), (), [r.name for f in p for r in f.ranges for _ in range(r.u)] + [trigger]
+
+
+def implies(*q):
+    return sheet(timed((one(0),), q, 1000)), (), [0] + [r.name for f in q for r in f.ranges for _ in range(r.u)]
+
+
+def papers():
+    yield Configuration('paper', '(n ≪ i, true)', *before(REPEATED, one(0)), (80, 192), (99, 496))
+    yield Configuration('paper', '(n[100,60000] ≪ i, true)', *before(REPEATED, one(0, 100, 60000)), (80, 192))
+    yield Configuration('paper', '(n[100,19000] ≪ i, true)', *before(REPEATED, one(0, 100, 19000)), None, (99, 496))
+    four, five = some(ALL, *range(4)), some(ALL, *range(5))
+    yield Configuration('paper', '(({n1..n4},∧) ≪ i, false)', *before(ONCE, four), (230, 1132), (279, 1384))
+    yield Configuration('paper', 'the same, repeated', *before(REPEATED, four), (230, 1132), (279, 1384))
+    yield Configuration('paper', '(({n1..n5},∧) ≪ i, false)', *before(ONCE, five), (280, 1568), (339, 1680))
+    yield Configuration('paper', 'the same, repeated', *before(REPEATED, five), (280, 1568), (339, 1680))
+    yield Configuration('paper', '(n1 ⇒ n2 < n3 < n4, T)', *implies(one(1), one(2), one(3)), (296, 1051), (379, 1888))
+    yield Configuration('paper', '(n1 ⇒ n2[100,60000] < n3 < n4, T)', *implies(one(1, 100, 60000), one(2), one(3)), (296, 1051))
+
+
+# ---------------------------------------------------------------------------------------------
+# Records that concern no rule
+# ---------------------------------------------------------------------------------------------
+
+def quiet():
+    one_rule, sixteen = sheet(required()), sheet(*[required()] * 16)
+    yield Configuration('quiet', 'event on no rule\'s name, 1 rule', one_rule, BUSY, (FOREIGN,))
+    yield Configuration('quiet', 'event on no rule\'s name, 16 rules', sixteen, BUSY, (FOREIGN,))
+    yield Configuration('quiet', 'clock reading, 1 rule', one_rule, BUSY, (CLOCK,))
+    yield Configuration('quiet', 'clock reading, 16 rules', sixteen, BUSY, (CLOCK,))
+    yield Configuration('quiet', 'clock reading, 1 rule whose deadline runs', sheet(within(0, LONG)), BUSY, (CLOCK,))
+    yield Configuration('quiet', 'clock reading, 16 rules whose deadlines run', sheet(*[within(0, LONG)] * 16), BUSY, (CLOCK,))
+
+
+# ---------------------------------------------------------------------------------------------
+
+def tables_bits(rules):
+    """The bits of a book that one record's rules are read from: 64 a rule, 16 + 64 a fragment, 64 a range; a trigger is a fragment of one range."""
+    fragments = [f for r in rules for f in r.p + r.q + (() if r.kind == TIMED else (one(r.trigger),))]
+    return 64 * len(rules) + sum(16 + 64 + 64 * len(f.ranges) for f in fragments)
+
+
+def array(values):
+    return '(const uint8_t[]){%s}, %d' % (', '.join(map(str, values)) or '0', len(values))
+
+
+def entry(c):
+    numbers = (c.figure or (0, 0)) + (c.table or (0, 0)) + (len(c.sheet.rules), tables_bits(c.sheet.rules))
+    return '    {"%s", "%s", %s, %s, %s, %s},' % (
+        c.part, c.title, array(written(c.sheet)[0]), array(c.opening), array(c.round), ', '.join(map(str, numbers)))
+
+
+if __name__ == '__main__':
+    print('static const configuration configurations[] = {')
+    for group in (general(), papers(), quiet()):
+        for configuration in group:
+            print(entry(configuration))
+    print('};')

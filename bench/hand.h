@@ -1,0 +1,63 @@
+/* The guard of document 01 written by hand in C: what the benchmark holds the proved guard against. Same tables and same masks, and nothing made for one sheet alone. */
+#ifndef HAND_H
+#define HAND_H
+
+#include <stddef.h>
+#include <stdint.h>
+
+enum { HAND_RULES = 16, HAND_FRAGMENTS = 16, HAND_RANGES = 8, HAND_NAMES = 64 };
+
+typedef struct hand_range {
+    uint8_t name;
+    uint16_t u, v;
+} hand_range;
+
+typedef struct hand_fragment {
+    uint64_t names; /* bit n: name n is in a range of this fragment */
+    uint8_t any;    /* joined any, else all */
+    uint8_t count;  /* of ranges */
+    hand_range ranges[HAND_RANGES];
+} hand_fragment;
+
+typedef struct hand_rule {
+    uint8_t kind;
+    uint8_t in_p;     /* fragments in P */
+    uint8_t in_round; /* fragments in P and Q; "A trigger counts as a last fragment of one range [1,1]." */
+    uint32_t limit;   /* t */
+    hand_fragment fragments[HAND_FRAGMENTS];
+} hand_rule;
+
+typedef struct hand_book {
+    uint8_t count; /* of rules */
+    hand_rule rules[HAND_RULES];
+    uint16_t holders[HAND_NAMES]; /* bit r: rule r has this name */
+} hand_book;
+
+/* "The monitor's state holds, for each rule, its fragment number, eight recogniser states, one count and the end time of P." */
+typedef struct hand_rule_state {
+    uint8_t fragment;
+    uint8_t states[HAND_RANGES];
+    uint16_t count;
+    uint32_t end;
+} hand_rule_state;
+
+typedef struct hand_monitor {
+    hand_rule_state rules[HAND_RULES];
+    uint32_t taken, latest;
+    uint8_t verdict; /* an answer other than refused */
+    uint16_t mask;   /* the open rules, or those that broke */
+    uint16_t dues;   /* the rules whose deadline runs */
+} hand_monitor;
+
+/* Same arguments, result and twelve bytes as guard_run. */
+uint32_t hand_run(const uint8_t *sheet, size_t sheet_length, const uint8_t *log, size_t log_length, uint32_t budget, uint8_t *out, size_t out_length);
+
+/* The live session. Each answer is answer | refusal << 8 | mask << 16 | place << 32, as in include/guard.h. A refused sheet changes neither book nor monitor. */
+uint64_t hand_open(hand_book *book, hand_monitor *m, const uint8_t *sheet, size_t length);
+void hand_start(const hand_book *book, hand_monitor *m);
+uint64_t hand_event(const hand_book *book, hand_monitor *m, uint32_t name, uint32_t time);
+uint64_t hand_clock(const hand_book *book, hand_monitor *m, uint32_t time);
+uint64_t hand_verdict(const hand_monitor *m);
+uint32_t hand_taken(const hand_monitor *m);
+
+#endif

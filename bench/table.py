@@ -1,0 +1,146 @@
+"""Puts what `bench` measured into Markdown tables: python3 table.py FOLDER
+
+FOLDER has the file facts (what `bench facts` printed) and, for the levels 2 and 3 that hand.c was compiled at, timeN (what some runs of
+`bench time` printed) and the callgrind dumps of `bench count`, countsN.*.
+"""
+
+import glob
+import math
+import os
+import re
+import sys
+from collections import defaultdict, namedtuple
+
+GUARDS = {'guard': 'guard', 'hand': 'C', 'hand_rs': 'Rust'}
+LEVELS = (2, 3)
+# a session's bits: one rule's state (fragment 8, states 8 x 8, count 16, end of P 32), and what all rules share (taken 32, latest 32, verdict 8, masks 16 + 16)
+RULE_BITS, SHARED_BITS = 120, 104
+
+Facts = namedtuple('Facts', 'number part title figure_ops figure_bits table_ops table_bits rules tables_bits')
+
+
+# ---------------------------------------------------------------------------------------------
+# What was measured: each a value by way ('run', 'live'), guard and configuration
+# ---------------------------------------------------------------------------------------------
+
+def lines(path):
+    with open(path, encoding='utf-8') as f:
+        return [line.rstrip('\n').split('\t') for line in f]
+
+
+def read_facts(folder):
+    return [Facts(int(n), part, title, *map(int, rest)) for n, part, title, *rest in lines(os.path.join(folder, 'facts'))]
+
+
+def read_times(path):
+    """Nanoseconds per record: the least of the runs."""
+    times = {}
+    for number, guard, run, live in lines(path):
+        for way, ns in (('run', run), ('live', live)):
+            key = way, guard, int(number)
+            times[key] = min(float(ns), times.get(key, math.inf))
+    return times
+
+
+def read_counts(pattern):
+    """{(what, guard, configuration): {records: instructions}}, from the label and the total of each dump."""
+    counts = defaultdict(dict)
+    for path in glob.glob(pattern):
+        with open(path, encoding='utf-8') as f:
+            text = f.read()
+        label = re.search(r'^desc: Trigger: Client Request: (\S+) (\d+) (\S+) (\d+)$', text, re.M)
+        if label:
+            guard, number, what, records = label.groups()
+            counts[what, guard, int(number)][int(records)] = int(re.search(r'^(?:totals|summary): (\d+)', text, re.M).group(1))
+    return counts
+
+
+def means(counts):
+    """Instructions per record: the difference of two lengths; for a session less that of the call that does nothing."""
+    out = {}
+    for key, of in counts.items():
+        if key[0] != 'each':
+            (short, low), (long, high) = sorted(of.items())
+            out[key] = (high - low) / (long - short)
+    for way, guard, number in out:
+        if way == 'live' and guard in GUARDS:
+            out[way, guard, number] -= out[way, 'none', number]
+    return out
+
+
+def most(counts, guard, number):
+    """The instructions of the costliest record of two rounds, less those of the call that does nothing."""
+    each, nothing = counts['each', guard, number], counts['each', 'none', number]
+    return max(each[i] - nothing[i] for i in each)
+
+
+def typical(times):
+    """One number for all times of the guard in C: the mean of their logarithms, back in nanoseconds."""
+    logs = [math.log(ns) for (_, guard, _), ns in times.items() if guard == 'hand']
+    return math.exp(sum(logs) / len(logs))
+
+
+# ---------------------------------------------------------------------------------------------
+# What is printed
+# ---------------------------------------------------------------------------------------------
+
+def table(head, rows):
+    print('| ' + ' | '.join(head) + ' |')
+    print('|' + '---|' * len(head))
+    for row in rows:
+        print('| ' + ' | '.join(row) + ' |')
+    print()
+
+
+def cells(values, way, number):
+    guard, c, rust = (values[way, g, number] for g in GUARDS)
+    return ['%.1f' % x for x in (guard, c, rust)] + ['%.2f' % (guard / c), '%.2f' % (guard / rust)]
+
+
+def print_way(way, title, facts, times, mean):
+    print('### %s\n' % title)
+    head = ['%s %s' % (h, unit) for unit in ('ns', 'instr.') for h in (*GUARDS.values(), 'guard/C', 'guard/Rust')]
+    table(['configuration'] + head, [[f.title] + cells(times, way, f.number) + cells(mean, way, f.number) for f in facts])
+
+
+def paper_row(f, counts):
+    state = RULE_BITS * f.rules + SHARED_BITS
+    figure_ops, table_ops, figure_bits, table_bits = (str(n or '') for n in (f.figure_ops, f.table_ops, f.figure_bits, f.table_bits))
+    instructions = [str(most(counts, g, f.number)) for g in GUARDS]
+    return [f.title] + instructions + [figure_ops, table_ops, str(state), str(state + f.tables_bits), figure_bits, table_bits]
+
+
+def print_papers(facts, counts):
+    print('### The costliest record of a live session, beside the papers\' figures for their direct monitor\n')
+    head = [g + ' instr.' for g in GUARDS.values()] + ['Figure 6 ops', 'Table 7.2 ops', 'guard bits', 'with tables', 'Figure 6 bits', 'Table 7.2 bits']
+    table(['configuration'] + head, [paper_row(f, counts) for f in facts if f.part == 'paper'])
+
+
+def print_reach(facts, times, mean, counts):
+    """The two goals: guard/C at most 1.2, and no record above a paper's operations."""
+    for unit, values in (('nanoseconds', times), ('instructions', mean)):
+        ratio, way, f = max(((values[way, 'guard', f.number] / values[way, 'hand', f.number], way, f) for way in ('run', 'live') for f in facts),
+                            key=lambda x: x[0])
+        print('- Largest guard/C in %s: %.2f (%s, %s).' % (unit, ratio, way, f.title))
+    above = [f.title for f in facts if f.part == 'paper' and most(counts, 'guard', f.number) > min(n for n in (f.figure_ops, f.table_ops) if n)]
+    print('- Configurations whose costliest record has more instructions than a paper gives operations: %s.' % ('; '.join(above) or 'none'))
+
+
+def main(folder):
+    facts = read_facts(folder)
+    times = {level: read_times(os.path.join(folder, 'time%d' % level)) for level in LEVELS}
+    level = min(LEVELS, key=lambda n: typical(times[n]))
+    counts = read_counts(os.path.join(folder, 'counts%d.*' % level))
+    mean = means(counts)
+    print_way('run', 'Log run, per record', facts, times[level], mean)
+    print_way('live', 'Live session, per record', facts, times[level], mean)
+    print_papers(facts, counts)
+    print_reach(facts, times[level], mean, counts)
+    print('- The host\'s loop with a call that does nothing: %.1f ns and %.1f instructions per record.'
+          % (times[level]['live', 'none', 0], mean['live', 'none', 0]))
+    print('- hand.c is compiled at -O%d, the faster: its mean time is %s.'
+          % (level, ', '.join('%.2f ns at -O%d' % (typical(times[n]), n) for n in LEVELS)))
+
+
+if __name__ == '__main__':
+    main(sys.argv[1])
