@@ -26,8 +26,8 @@ mask-requires c κs = search needs
 dues-requires : tie.Need-dues-requires
 dues-requires c κs = search needs
 
-passed-requires : tie.Need-passed-requires
-passed-requires c κs = search needs
+looked-requires : tie.Need-looked-requires
+looked-requires c κs = search needs
 
 add-judged : tie.Need-add-judged
 add-judged c = search needs
@@ -42,7 +42,7 @@ returns-3 c =
     let h = after .taken .ensures in
     let fits = after .taken .ok in
     leaves-taken _ (now (early .before .before .before .args .m)) _ _ _ (omega (arith, early .if1 .left, early .before .latest .ensures)) (omega (arith, c .before .before .before .before .before .before .before .before .if2 .left, h, fits))
-    _ _ _ (c .before .before .before .before .before .before .mask .ensures) (c .before .before .before .before .dues .ensures) (omega (arith, h)) _ _ (c .before .before .passed .ensures) _ _ (c .judged .ensures)
+    _ _ _ (c .before .before .before .before .before .before .mask .ensures) (c .before .before .before .before .dues .ensures) (omega (arith, h)) _ _ (c .before .before .looked .ensures) _ _ (c .judged .ensures)
 
 pub taken-spec : {M : Type 1} → statement M
 taken-spec =
@@ -54,7 +54,7 @@ taken-spec =
     returns-2
     mask-requires
     dues-requires
-    passed-requires
+    looked-requires
     add-judged
     judged-requires
     returns-3)
