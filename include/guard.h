@@ -52,7 +52,8 @@ uint32_t guard_run(const uint8_t *sheet, size_t sheet_length, const uint8_t *log
 /* ---- a live session
  * The host lends the memory of one book (19,200 bytes, which guard_open writes and nothing else changes) and of one monitor for each session under it (272 bytes).
  * The words are the guard's own: a host stores and copies them, and does not read them. Every bit pattern is safe: for a book or a monitor that these calls did not make,
- * or a monitor of another book, the answer is free, the call returns, and it writes nothing but the monitor. */
+ * or a monitor of another book, the answer is free, the call returns, and it writes nothing but the monitor. Sheet, book and monitor do not overlap. Threads may share an
+ * opened book; a monitor belongs to one thread at a time. */
 
 typedef struct guard_book {
     uint64_t heads[16];
@@ -66,7 +67,8 @@ typedef struct guard_monitor {
     uint64_t words[34];
 } guard_monitor;
 
-/* answer and refusal as above; mask: bit r is rule r of the sheet, in file order from 0; place: k for broken, the field's offset for a refused sheet, else 0 */
+/* answer and refusal as above; mask: bit r is rule r of the sheet, in file order from 0, for open and broken, else 0; place: k for broken, the field's offset for a refused
+ * sheet, else 0 */
 typedef struct guard_answer {
     uint8_t answer;
     uint8_t refusal;
