@@ -4,6 +4,7 @@ use mathlib.Core.Path.{_≡_, refl, sym, ap, ap₂, _∙_}
 use mathlib.Core.List.{List, [], _∷_}
 use Prim.Native.Nat.{ℕ, _+_, _*_, _%_, _/_, _<_, _≤_}
 use native.Mathlib.Omega.{arith}
+use lib.Arith.{digits-div}
 use lib.ListN.{length, getD, set, replicate, length-set}
 use lib.Seq.{getD-set-same, getD-set-other}
 use Rattle.step.specs.declared.RuleState.{RuleState}
@@ -26,42 +27,23 @@ eight (a ∷ b ∷ c ∷ d ∷ e ∷ f ∷ g ∷ []) p = absurd (omega (arith, p
 eight (a ∷ b ∷ c ∷ d ∷ e ∷ f ∷ g ∷ h ∷ i ∷ x) p = absurd (omega (arith, p))
 
 -- one digit of a number, between a part below it and a part above
-digit-0 : (d above w : ℕ) → d < 256 → w ≡ d + 256 * above → w % 256 ≡ d
-digit-0 d above w h e = omega arith
-
-digit-1 : (below d above w : ℕ) → below < 256 → d < 256 → w ≡ below + 256 * (d + 256 * above) → w / 256 % 256 ≡ d
-digit-1 below d above w l h e = omega arith
-
-digit-2 : (below d above w : ℕ) → below < 65536 → d < 256 → w ≡ below + 65536 * (d + 256 * above) → w / 65536 % 256 ≡ d
-digit-2 below d above w l h e = omega arith
-
-digit-3 : (below d above w : ℕ) → below < 16777216 → d < 256 → w ≡ below + 16777216 * (d + 256 * above) → w / 16777216 % 256 ≡ d
-digit-3 below d above w l h e = omega arith
-
-digit-4 : (below d above w : ℕ) → below < 4294967296 → d < 256 → w ≡ below + 4294967296 * (d + 256 * above) → w / 4294967296 % 256 ≡ d
-digit-4 below d above w l h e = omega arith
-
-digit-5 : (below d above w : ℕ) → below < 1099511627776 → d < 256 → w ≡ below + 1099511627776 * (d + 256 * above) → w / 1099511627776 % 256 ≡ d
-digit-5 below d above w l h e = omega arith
-
-digit-6 : (below d above w : ℕ) → below < 281474976710656 → d < 256 → w ≡ below + 281474976710656 * (d + 256 * above) → w / 281474976710656 % 256 ≡ d
-digit-6 below d above w l h e = omega arith
-
-digit-7 : (below d above w : ℕ) → below < 72057594037927936 → d < 256 → w ≡ below + 72057594037927936 * (d + 256 * above) → w / 72057594037927936 % 256 ≡ d
-digit-7 below d above w l h e = omega arith
+digit : (unit below d above w : ℕ) → below < unit → d < 256 → w ≡ (d + 256 * above) * unit + below → w / unit % 256 ≡ d
+digit unit below d above w l h e =
+    let z : (d + 256 * above) % 256 ≡ d = omega arith in
+    ap (λ (n : ℕ). n / unit % 256) e ∙ ap (λ (n : ℕ). n % 256) (digits-div (d + 256 * above) l) ∙ z
 
 digits : (a b c d e f g h : ℕ) → a < 256 → b < 256 → c < 256 → d < 256 → e < 256 → f < 256 → g < 256 → h < 256 → (w : ℕ)
     → w ≡ (a + 256 * b + 65536 * c + 16777216 * d) + 4294967296 * (e + 256 * f + 65536 * g + 16777216 * h)
     → statesIn w ≡ (a ∷ b ∷ c ∷ d ∷ e ∷ f ∷ g ∷ h ∷ [])
 digits a b c d e f g h ha hb hc hd he hf hg hh w p =
-    let e0 = digit-0 a (b + 256 * c + 65536 * d + 16777216 * e + 4294967296 * f + 1099511627776 * g + 281474976710656 * h) w ha (omega arith) in
-    let e1 = digit-1 (a) b (c + 256 * d + 65536 * e + 16777216 * f + 4294967296 * g + 1099511627776 * h) w (omega arith) hb (omega arith) in
-    let e2 = digit-2 (a + 256 * b) c (d + 256 * e + 65536 * f + 16777216 * g + 4294967296 * h) w (omega arith) hc (omega arith) in
-    let e3 = digit-3 (a + 256 * b + 65536 * c) d (e + 256 * f + 65536 * g + 16777216 * h) w (omega arith) hd (omega arith) in
-    let e4 = digit-4 (a + 256 * b + 65536 * c + 16777216 * d) e (f + 256 * g + 65536 * h) w (omega arith) he (omega arith) in
-    let e5 = digit-5 (a + 256 * b + 65536 * c + 16777216 * d + 4294967296 * e) f (g + 256 * h) w (omega arith) hf (omega arith) in
-    let e6 = digit-6 (a + 256 * b + 65536 * c + 16777216 * d + 4294967296 * e + 1099511627776 * f) g (h) w (omega arith) hg (omega arith) in
-    let e7 = digit-7 (a + 256 * b + 65536 * c + 16777216 * d + 4294967296 * e + 1099511627776 * f + 281474976710656 * g) h (0) w (omega arith) hh (omega arith) in
+    let e0 : w % 256 ≡ a = omega (arith, p) in
+    let e1 = digit 256 (a) b (c + 256 * d + 65536 * e + 16777216 * f + 4294967296 * g + 1099511627776 * h) w (omega arith) hb (omega arith) in
+    let e2 = digit 65536 (a + 256 * b) c (d + 256 * e + 65536 * f + 16777216 * g + 4294967296 * h) w (omega arith) hc (omega arith) in
+    let e3 = digit 16777216 (a + 256 * b + 65536 * c) d (e + 256 * f + 65536 * g + 16777216 * h) w (omega arith) hd (omega arith) in
+    let e4 = digit 4294967296 (a + 256 * b + 65536 * c + 16777216 * d) e (f + 256 * g + 65536 * h) w (omega arith) he (omega arith) in
+    let e5 = digit 1099511627776 (a + 256 * b + 65536 * c + 16777216 * d + 4294967296 * e) f (g + 256 * h) w (omega arith) hf (omega arith) in
+    let e6 = digit 281474976710656 (a + 256 * b + 65536 * c + 16777216 * d + 4294967296 * e + 1099511627776 * f) g (h) w (omega arith) hg (omega arith) in
+    let e7 = digit 72057594037927936 (a + 256 * b + 65536 * c + 16777216 * d + 4294967296 * e + 1099511627776 * f + 281474976710656 * g) h (0) w (omega arith) hh (omega arith) in
     λ i. e0 i ∷ e1 i ∷ e2 i ∷ e3 i ∷ e4 i ∷ e5 i ∷ e6 i ∷ e7 i ∷ []
 
 pub states-back : (x : List ℕ) → length x ≡ 8
