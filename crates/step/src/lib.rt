@@ -218,15 +218,25 @@ pub fn fresh_states(size: usize) -> [u8; 8]
     x
 }
 
+// The state, besides idle and done, in which *next* finds nothing to wait for: a range that has not occurred may be left out if the join is any.
+fn left_out(join: u8) -> u8
+    ensures { λ r. ⌜ r ≡ cond (eqb join 0) 0 2 ⌝ }
+{
+    if join == 0 {
+        return 0;
+    }
+    2
+}
+
 // *next* is no error to a range in state s.
 fn closes(s: u8, join: u8, count: u16, u: u16) -> bool
     ensures { λ r. ⌜ r ≡ closesAt s join count u ⌝ }
 {
-    if s == 2 {
-        return join != 0;
-    }
     if s == 3 {
         return u <= count;
+    }
+    if s == left_out(join) {
+        return true;
     }
     or(s == 0, s == 4)
 }
