@@ -13,7 +13,7 @@ module _ {A : Type 0} where
   places rule i zero = []
   places rule i (suc n) = rule i ∷ places rule (suc i) n
 
-  place-at : (rule : ℕ → A) (n i k : ℕ) (d : A) → k < n → getD (places rule i n) k d ≡ rule (i + k)
+  pub place-at : (rule : ℕ → A) (n i k : ℕ) (d : A) → k < n → getD (places rule i n) k d ≡ rule (i + k)
   place-at rule zero i k d h = absurd (omega arith)
   place-at rule (suc n) i zero d h = ap rule (sym (add-zero i))
   place-at rule (suc n) i (suc k) d h = place-at rule n (suc i) k d (le-of-suc-le-suc h) ∙ ap rule (suc-add i k ∙ sym (add-suc i k))

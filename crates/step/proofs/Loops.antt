@@ -1,14 +1,16 @@
 -- The loops over a fragment's ranges: what each has after i of them, one turn more, and the end. The laws `mapN-more` and `foldN-more` serve all.
 -- Assumes nothing.
-use mathlib.Core.Path.{_≡_, refl, sym, ap, _∙_}
-use mathlib.Core.Bool.{Bool, true, false, cond, _&&_, _||_}
+use mathlib.Core.Path.{_≡_, refl, sym, ap, subst, _∙_}
+use mathlib.Core.Bool.{Bool, true, false, cond, not, _&&_, _||_}
 use mathlib.Core.List.{List, [], _∷_}
 use Prim.Native.Nat.{ℕ, zero, suc, _+_, _*_, _-_, _/_, _%_, _^_, _<_, _≤_}
 use native.Mathlib.Nat.{le-of-suc-le-suc, not-suc-le-zero, lt-of-lt-of-le, pow-suc, pow-le-pow-right}
 use native.Mathlib.Omega.{arith}
 use lib.Dec.{eqb}
 use lib.ListN.{length, getD, set, replicate}
-use Rattle.pattern.specs.Numbers.{nextState}
+use borrow.Author.Tests.{ne-eqb}
+use Rattle.pattern.specs.Numbers.{stateNumber, joinOf, bounds, nextState}
+use Rattle.pattern.specs.Entries.{entryState, entryIn, IsColumn}
 use Rattle.book.specs.Words.{nameIn, lowIn, highIn}
 use Rattle.step.specs.declared.RuleState.{RuleState}
 use Rattle.step.specs.Upto.{mapN, foldN, mapN-more, foldN-more}
@@ -38,7 +40,55 @@ module _ {B : Type 0} (g : ℕ → ℕ → B → B) (l : List ℕ) (b : B) (size
   pub gathering-end : {x : B} {i : ℕ} → Gathering x i → size ≤ i → x ≡ foldN g 0 size l b
   gathering-end {x} {i} m h = let e : i ≡ size = omega (arith, m .within) in m .soFar ∙ ap (λ (n : ℕ). foldN g 0 n l b) e
 
+-- ---- a search that ends at the first that fails
+
+pub failed : (b : Bool) → not b ≡ true → false ≡ b
+failed true h = h
+failed false h = refl
+
+pub held : (b : Bool) → not b ≡ false → true ≡ b
+held true h = refl
+held false h = h
+
+module _ (t : ℕ → ℕ → Bool) where
+  none-left : (n k : ℕ) (l : List ℕ) → foldN (λ i s b. b && t i s) k n l false ≡ false
+  none-left zero k l = refl
+  none-left (suc n) k [] = refl
+  none-left (suc n) k (s ∷ l) = none-left n (suc k) l
+
+  fails : (n m k : ℕ) (l : List ℕ) (b : Bool) → n ≤ m → foldN (λ i s b. b && t i s) k n l b ≡ false → foldN (λ i s b. b && t i s) k m l b ≡ false
+  fails zero m k l b h e = rw e (none-left m k l)
+  fails (suc n) zero k l b h e = absurd (not-suc-le-zero h)
+  fails (suc n) (suc m) k [] b h e = e
+  fails (suc n) (suc m) k (s ∷ l) b h e = fails n m (suc k) l (b && t k s) (le-of-suc-le-suc h) e
+
+  pub search-fails : (l : List ℕ) (size : ℕ) {i : ℕ} → Gathering (λ i s b. b && t i s) l true size true i → i < size → i < length l → false ≡ t i (getD l i 0)
+      → false ≡ foldN (λ i s b. b && t i s) 0 size l true
+  search-fails l size {i} m h k e =
+      let more : i + 1 ≤ size = omega arith in
+      sym (fails (i + 1) size 0 l true more (sym (gathering-more _ _ _ _ m h k e .soFar)))
+
 -- ---- one event moves every range
+
+-- of the two columns the chosen one is that of the class
+chosen : (seen name n own other : ℕ) → IsColumn 0 own → IsColumn seen other → IsColumn (classAt seen name n) (cond (eqb (classAt seen name n) 0) own other)
+unfolding classAt
+chosen seen name n own other a b = look (eqb seen 1 && eqb name n)
+  where
+    pick : (m : ℕ) → IsColumn m other → IsColumn m (cond (eqb m 0) own other)
+    pick zero h = a
+    pick (suc m) h = subst (λ (c : Bool). IsColumn (suc m) (cond c own other)) (sym (ne-eqb (suc m) 0 (λ e. absurd (omega (arith, e))))) h
+
+    look : (c : Bool) → IsColumn (cond c 0 seen) (cond (eqb (cond c 0 seen) 0) own other)
+    look true = a
+    look false = pick seen b
+
+pub moved-is : (seen name n own other join count s u v : ℕ) {class column y : ℕ} → IsColumn 0 own → IsColumn seen other
+    → class ≡ classAt seen name n → column ≡ cond (eqb class 0) own other → y ≡ stateNumber (entryState (joinOf join) (bounds u v) count (entryIn column s))
+    → y ≡ nextState s class join count u v
+unfolding nextState
+moved-is seen name n own other join count s u v a b ec eo ey =
+    ey ∙ rw (eo, ec) (ap stateNumber (chosen seen name n own other a b (joinOf join) (bounds u v) count s))
 
 module _ (g : Ranges) (name seen : ℕ) (st : RuleState) where
   pub record Turning (x : List ℕ) (count : ℕ) (bad idle : Bool) (i : ℕ) : Type 0 where
@@ -47,13 +97,13 @@ module _ (g : Ranges) (name seen : ℕ) (st : RuleState) where
     pub bads : Gathering (badOf g name seen (st .count)) (st .states) false (g .size) bad i
     pub idles : Gathering (idleOf g name seen (st .count)) (st .states) true (g .size) idle i
 
-  pub turning-more : {x : List ℕ} {count count′ i n class u v y : ℕ} {bad bad′ idle idle′ : Bool} → Turning x count bad idle i → i < g .size → i < length (st .states)
-      → n ≡ nameIn (wordAt g i) → class ≡ classAt seen name n → v ≡ highIn (wordAt g i) → u ≡ lowIn (wordAt g i)
-      → y ≡ nextState (getD (st .states) i 0) class (g .join) (st .count) u v → count′ ≡ countAt class (getD (st .states) i 0) (st .count) v count
+  pub turning-more : {x : List ℕ} {count count′ i n class v y : ℕ} {bad bad′ idle idle′ : Bool} → Turning x count bad idle i → i < g .size → i < length (st .states)
+      → n ≡ nameIn (wordAt g i) → class ≡ classAt seen name n → v ≡ highIn (wordAt g i)
+      → y ≡ nextState (getD (st .states) i 0) class (g .join) (st .count) (lowIn (wordAt g i)) (highIn (wordAt g i)) → count′ ≡ countAt class (getD (st .states) i 0) (st .count) v count
       → bad′ ≡ (bad || eqb y 5) → idle′ ≡ (idle && eqb y 0)
       → Turning (set x i y) count′ bad′ idle′ (i + 1)
-  turning-more {x} {count} {count′} {i} {n} {class} {u} {v} {y} t h k en ec ev eu ey ek eb ei =
-      let moved : y ≡ moveOf g name seen (st .count) i (getD (st .states) i 0) = ey ∙ rw (ec, en, eu, ev) in
+  turning-more {x} {count} {count′} {i} {n} {class} {v} {y} t h k en ec ev ey ek eb ei =
+      let moved : y ≡ moveOf g name seen (st .count) i (getD (st .states) i 0) = ey ∙ rw (ec, en) in
       record {
         states = mapping-more _ _ _ (t .states) h k moved;
         counts = gathering-more _ _ _ _ (t .counts) h k (ek ∙ rw (ec, en, ev));

@@ -1,11 +1,14 @@
 // One rule of a book at an event (document 01, "The recogniser of a range"): the rule's state by value, the book's arrays lent by reference.
 // An index that comes from a table or a state is reduced by a remainder, so that nothing is asked of either.
 ghost use mathlib.Core.Path.{_≡_};
-ghost use mathlib.Core.Bool.{false, not, _&&_, _||_};
+ghost use mathlib.Core.Bool.{cond, false, not, _&&_, _||_};
 ghost use Prim.Native.Nat.{_+_, _*_, _%_, _<_, _≤_};
 ghost use lib.Dec.{leb, eqb};
 ghost use lib.ListN.{getD};
 ghost use Rattle.names.specs.Names.{member};
+ghost use Rattle.pattern.specs.Numbers.{stateNumber, joinOf, bounds};
+ghost use Rattle.pattern.specs.Entries.{entryState, entryIn};
+ghost use Rattle.book.specs.Words.{lowIn, highIn};
 ghost use Rattle.step.specs.Steps.{classAt, countAt, turnOf, begunAt, begunStates, digits, freshStates, closesAt, takesAt, overAt, allOver, growsOf, completeOf, pastOf, followsOf, endOf, seenOf, dueOf, runsOf, settledOf, planOf, rangesOf, stoodOf, beginOf, stayOf, actOf};
 
 // "The monitor's state holds, for each rule, its fragment number, eight recogniser states, one count and the end time of P."
@@ -59,6 +62,27 @@ fn class_of(seen: u8, name: u8, own: u8) -> u8
     seen
 }
 
+// The column of moves for this class, of the two that a fragment needs: that of its own events, and that of an event that it has seen so.
+fn column_of(class: u8, own: u32, other: u32) -> u32
+    ensures { λ r. ⌜ r ≡ cond (eqb class 0) own other ⌝ }
+{
+    if class == 0 {
+        return own;
+    }
+    other
+}
+
+// The state after an event of this column, for a range in state s. The bounds are taken out of the range's word only where a move has a condition.
+fn moved_by(column: u32, s: u8, join: u8, count: u16, word: u64) -> u8
+    ensures { λ r. ⌜ r ≡ stateNumber (entryState (joinOf join) (bounds (lowIn word) (highIn word)) count (entryIn column s)) ⌝ }
+{
+    let entry = pattern::entry(column, s);
+    if entry <= 5 {
+        return entry;
+    }
+    pattern::decided(entry, join, count, book::low(word), book::high(word))
+}
+
 // The count after an event of this class, where a range was in state s; kept is the count of the ranges before it.
 fn counted(class: u8, s: u8, count: u16, v: u16, kept: u16) -> u16
     ensures { λ r. ⌜ r ≡ countAt class s count v kept ⌝ }
@@ -93,7 +117,7 @@ fn and(a: bool, b: bool) -> bool
     false
 }
 
-// One event moves every range of the fragment. Whether all are idle is part of it; no code reads that, as `all_over` tells it without a move.
+// One event moves every range of the fragment. The columns of the table are looked up once for all of them. Whether all are idle is part of it; no code reads that, as `all_over` tells it without a move.
 fn turn(
     ranges: &[u64; 2048],
     base: usize,
@@ -111,13 +135,14 @@ fn turn(
     let mut count = st.count;
     let mut bad = false;
     let mut idle = true;
+    let own = pattern::column(0);
+    let other = pattern::column(seen);
     let mut i = 0usize;
     while i < size {
         let word = ranges[base + i];
         let class = class_of(seen, name, book::name(word));
-        let v = book::high(word);
-        let y = pattern::next_state(old[i], class, join, st.count, book::low(word), v);
-        count = counted(class, old[i], st.count, v, count);
+        let y = moved_by(column_of(class, own, other), old[i], join, st.count, word);
+        count = counted(class, old[i], st.count, book::high(word), count);
         bad = or(bad, y == 5);
         idle = and(idle, y == 0);
         x[i] = y;
@@ -193,15 +218,25 @@ pub fn fresh_states(size: usize) -> [u8; 8]
     x
 }
 
+// The state, besides idle and done, in which *next* finds nothing to wait for: a range that has not occurred may be left out if the join is any.
+fn left_out(join: u8) -> u8
+    ensures { λ r. ⌜ r ≡ cond (eqb join 0) 0 2 ⌝ }
+{
+    if join == 0 {
+        return 0;
+    }
+    2
+}
+
 // *next* is no error to a range in state s.
 fn closes(s: u8, join: u8, count: u16, u: u16) -> bool
     ensures { λ r. ⌜ r ≡ closesAt s join count u ⌝ }
 {
-    if s == 2 {
-        return join != 0;
-    }
     if s == 3 {
         return u <= count;
+    }
+    if s == left_out(join) {
+        return true;
     }
     or(s == 0, s == 4)
 }
@@ -229,7 +264,7 @@ fn over(class: u8, s: u8, join: u8, count: u16, word: u64) -> bool
     s == 0
 }
 
-// Every range is over. By 2 the fragment is complete and may be followed; by 0 it cannot take one more event. By 2 and 3 all become idle, and none is moved to tell that.
+// Every range is over. By 2 the fragment is complete and may be followed; by 0 it cannot take one more event. By 2 and 3 all become idle, and none is moved to tell that. The first that is not over ends the search.
 fn all_over(
     ranges: &[u64; 2048],
     base: usize,
@@ -242,13 +277,14 @@ fn all_over(
     requires { ⌜ (base ≤ 2040) × (size ≤ 8) ⌝ }
     ensures { λ r. ⌜ r ≡ allOver (record { words = now (ranges .entry); base = base; size = size; join = join }) class states count ⌝ }
 {
-    let mut all = true;
     let mut i = 0usize;
     while i < size {
-        all = and(all, over(class, states[i], join, count, ranges[base + i]));
+        if !over(class, states[i], join, count, ranges[base + i]) {
+            return false;
+        }
         i = i + 1;
     }
-    all
+    true
 }
 
 // ---- time

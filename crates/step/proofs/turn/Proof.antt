@@ -3,17 +3,25 @@ use mathlib.Core.Path.{_≡_}
 use Prim.Native.Nat.{_-_}
 use native.Mathlib.Omega.{arith}
 use lib.ListN.{length}
-use Rattle.step.proofs.Loops.{Turning, turning-more, turning-end}
+use Rattle.pattern.specs.Entries.{IsColumn}
+use Rattle.step.proofs.Loops.{moved-is, Turning, turning-more, turning-end}
 use borrow.Author.Needs.{needs}
 use Rattle.step.proofs.turn.Statement.{statement}
 use Rattle.step.proofs.turn.Tie as tie
 
 abbrev Inv-loop : tie.InvT-loop
-Inv-loop ranges base size join st name seen old x₀ count₀ bad₀ idle₀ i₀ x count bad idle i =
+Inv-loop ranges base size join st name seen old x₀ count₀ bad₀ idle₀ own other i₀ x count bad idle i =
     Turning (record { words = ranges; base = base; size = size; join = join }) name seen st x count bad idle i × (old ≡ st .states) × (length old ≡ 8)
+    × IsColumn 0 own × IsColumn seen other
 
 abbrev μ-loop : tie.MeasureT-loop
-μ-loop ranges base size join st name seen old x₀ count₀ bad₀ idle₀ i₀ x count bad idle i = size - i
+μ-loop ranges base size join st name seen old x₀ count₀ bad₀ idle₀ own other i₀ x count bad idle i = size - i
+
+column-requires : tie.Need-column-requires Inv-loop μ-loop
+column-requires c κs = search needs
+
+column-requires-2 : tie.Need-column-requires-2 Inv-loop μ-loop
+column-requires-2 c κs = search needs
 
 loop-holds : tie.Need-loop-holds Inv-loop μ-loop
 loop-holds c = search needs
@@ -33,20 +41,20 @@ name-requires c κs = search needs
 class-of-requires : tie.Need-class-of-requires Inv-loop μ-loop
 class-of-requires c κs = search needs
 
-high-requires : tie.Need-high-requires Inv-loop μ-loop
-high-requires c κs = search needs
+column-of-requires : tie.Need-column-of-requires Inv-loop μ-loop
+column-of-requires c κs = search needs
 
-array-read-next-state : tie.Need-array-read-next-state Inv-loop μ-loop
-array-read-next-state c = search needs
+array-read-moved-by : tie.Need-array-read-moved-by Inv-loop μ-loop
+array-read-moved-by c = search needs
 
-low-requires : tie.Need-low-requires Inv-loop μ-loop
-low-requires c κs = search needs
-
-next-state-requires : tie.Need-next-state-requires Inv-loop μ-loop
-next-state-requires c κs = search needs
+moved-by-requires : tie.Need-moved-by-requires Inv-loop μ-loop
+moved-by-requires c κs = search needs
 
 array-read-counted : tie.Need-array-read-counted Inv-loop μ-loop
 array-read-counted c = search needs
+
+high-requires : tie.Need-high-requires Inv-loop μ-loop
+high-requires c κs = search needs
 
 counted-requires : tie.Need-counted-requires Inv-loop μ-loop
 counted-requires c κs = search needs
@@ -67,22 +75,26 @@ loop-less : tie.Need-loop-less Inv-loop μ-loop
 loop-less c = search needs
 
 loop-again : tie.Need-loop-again Inv-loop μ-loop
-loop-again c = (
-  turning-more _ _ _ _ (c .before .before .before .before .before .before .before .before .before .before .loop .inv .0) (omega arith) (omega arith)
-      (c .before .before .before .before .before .before .before .name .ensures)
-      (c .before .before .before .before .before .before .class-of .ensures)
-      (c .before .before .before .before .before .high .ensures)
-      (c .before .before .before .before .low .ensures)
-      (c .before .before .before .next-state .ensures)
-      (c .before .before .counted .ensures)
-      (c .before .or .ensures)
-      (c .and .ensures),
-  search needs,
-  search needs,
-)
+loop-again c =
+    let m = c .before .before .before .before in
+    let k = m .before .before in
+    let l = k .before .before .before .before in (
+      turning-more _ _ _ _ (l .loop .inv .0) (omega arith) (omega arith)
+          (k .before .name .ensures)
+          (k .class-of .ensures)
+          (c .before .before .before .high .ensures)
+          (moved-is _ _ _ _ _ _ _ _ _ _ (l .loop .inv .3) (l .loop .inv .4) (k .class-of .ensures) (m .before .column-of .ensures) (m .moved-by .ensures))
+          (c .before .before .counted .ensures)
+          (c .before .or .ensures)
+          (c .and .ensures),
+      search needs,
+      search needs,
+      l .loop .inv .3,
+      l .loop .inv .4,
+    )
 
 returns : tie.Need-returns Inv-loop μ-loop
 returns c = turning-end _ _ _ _ (c .before .loop .inv .0) (c .loop-test .left)
 
 pub turn-spec : {M : Type 1} → statement M
-turn-spec = tie.close (tie.spec Inv-loop μ-loop loop-holds add-word mul-word element-copy-out-word name-requires class-of-requires high-requires array-read-next-state low-requires next-state-requires array-read-counted counted-requires or-requires and-requires array-write-x add-i loop-less loop-again returns)
+turn-spec = tie.close (tie.spec Inv-loop μ-loop column-requires column-requires-2 loop-holds add-word mul-word element-copy-out-word name-requires class-of-requires column-of-requires array-read-moved-by moved-by-requires array-read-counted high-requires counted-requires or-requires and-requires array-write-x add-i loop-less loop-again returns)
