@@ -166,7 +166,7 @@ fn begun(name: u8, own: u8) -> u8
 }
 
 // Eight states from one word, the first from its lowest byte.
-fn spread(word: u64) -> [u8; 8]
+pub fn spread(word: u64) -> [u8; 8]
     ensures { λ r. ⌜ r ≡ digits 8 word ⌝ }
 {
     let w1 = word / 256;

@@ -2,13 +2,13 @@
 -- Assumes nothing.
 use mathlib.Core.Path.{_≡_, refl, sym, ap, ap₂, _∙_}
 use mathlib.Core.List.{List, [], _∷_}
-use Prim.Native.Nat.{ℕ, _+_, _*_, _%_, _/_, _<_, _≤_}
+use Prim.Native.Nat.{ℕ, suc, _+_, _*_, _%_, _/_, _<_, _≤_}
 use native.Mathlib.Omega.{arith}
-use lib.Arith.{digits-div}
 use lib.ListN.{length, getD, set, replicate, length-set}
 use lib.Seq.{getD-set-same, getD-set-other}
 use Rattle.step.specs.declared.RuleState.{RuleState}
 use Rattle.step.specs.Upto.{mapN, length-mapN}
+use Rattle.step.specs.Steps.{digits}
 use Rattle.words.specs.Words.{statesIn, stateIn, stateAt, noState, ruleFrom, rulesIn, heldBy, Stores, Holds}
 use Rattle.words.proofs.Places.{mapN-within, set-mapN, getD-mapN}
 
@@ -26,31 +26,23 @@ eight (a ∷ b ∷ c ∷ d ∷ e ∷ f ∷ []) p = absurd (omega (arith, p))
 eight (a ∷ b ∷ c ∷ d ∷ e ∷ f ∷ g ∷ []) p = absurd (omega (arith, p))
 eight (a ∷ b ∷ c ∷ d ∷ e ∷ f ∷ g ∷ h ∷ i ∷ x) p = absurd (omega (arith, p))
 
--- one digit of a number, between a part below it and a part above
-digit : (unit below d above w : ℕ) → below < unit → d < 256 → w ≡ (d + 256 * above) * unit + below → w / unit % 256 ≡ d
-digit unit below d above w l h e =
-    let z : (d + 256 * above) % 256 ≡ d = omega arith in
-    ap (λ (n : ℕ). n / unit % 256) e ∙ ap (λ (n : ℕ). n % 256) (digits-div (d + 256 * above) l) ∙ z
-
-digits : (a b c d e f g h : ℕ) → a < 256 → b < 256 → c < 256 → d < 256 → e < 256 → f < 256 → g < 256 → h < 256 → (w : ℕ)
-    → w ≡ (a + 256 * b + 65536 * c + 16777216 * d) + 4294967296 * (e + 256 * f + 65536 * g + 16777216 * h)
-    → statesIn w ≡ (a ∷ b ∷ c ∷ d ∷ e ∷ f ∷ g ∷ h ∷ [])
-digits a b c d e f g h ha hb hc hd he hf hg hh w p =
-    let e0 : w % 256 ≡ a = omega (arith, p) in
-    let e1 = digit 256 (a) b (c + 256 * d + 65536 * e + 16777216 * f + 4294967296 * g + 1099511627776 * h) w (omega arith) hb (omega arith) in
-    let e2 = digit 65536 (a + 256 * b) c (d + 256 * e + 65536 * f + 16777216 * g + 4294967296 * h) w (omega arith) hc (omega arith) in
-    let e3 = digit 16777216 (a + 256 * b + 65536 * c) d (e + 256 * f + 65536 * g + 16777216 * h) w (omega arith) hd (omega arith) in
-    let e4 = digit 4294967296 (a + 256 * b + 65536 * c + 16777216 * d) e (f + 256 * g + 65536 * h) w (omega arith) he (omega arith) in
-    let e5 = digit 1099511627776 (a + 256 * b + 65536 * c + 16777216 * d + 4294967296 * e) f (g + 256 * h) w (omega arith) hf (omega arith) in
-    let e6 = digit 281474976710656 (a + 256 * b + 65536 * c + 16777216 * d + 4294967296 * e + 1099511627776 * f) g (h) w (omega arith) hg (omega arith) in
-    let e7 = digit 72057594037927936 (a + 256 * b + 65536 * c + 16777216 * d + 4294967296 * e + 1099511627776 * f + 281474976710656 * g) h (0) w (omega arith) hh (omega arith) in
-    λ i. e0 i ∷ e1 i ∷ e2 i ∷ e3 i ∷ e4 i ∷ e5 i ∷ e6 i ∷ e7 i ∷ []
+digits-cons : (n a above w : ℕ) → a < 256 → w ≡ a + 256 * above → digits (suc n) w ≡ a ∷ digits n above
+digits-cons n a above w h e =
+    let low : w % 256 ≡ a = omega arith in
+    let high : w / 256 ≡ above = omega arith in
+    λ i. low i ∷ digits n (high i)
 
 pub states-back : (x : List ℕ) → length x ≡ 8
     → getD x 0 0 < 256 → getD x 1 0 < 256 → getD x 2 0 < 256 → getD x 3 0 < 256 → getD x 4 0 < 256 → getD x 5 0 < 256 → getD x 6 0 < 256 → getD x 7 0 < 256 → (w : ℕ)
-    → w ≡ (getD x 0 0 + 256 * getD x 1 0 + 65536 * getD x 2 0 + 16777216 * getD x 3 0) + 4294967296 * (getD x 4 0 + 256 * getD x 5 0 + 65536 * getD x 6 0 + 16777216 * getD x 7 0)
+    → w ≡ getD x 0 0 + 256 * (getD x 1 0 + 256 * (getD x 2 0 + 256 * (getD x 3 0 + 256 * (getD x 4 0 + 256 * (getD x 5 0 + 256 * (getD x 6 0 + 256 * getD x 7 0))))))
     → statesIn w ≡ x
-states-back x l h0 h1 h2 h3 h4 h5 h6 h7 w p = digits _ _ _ _ _ _ _ _ h0 h1 h2 h3 h4 h5 h6 h7 w p ∙ eight x l
+states-back x l h0 h1 h2 h3 h4 h5 h6 h7 w e =
+    digits-cons 7 _ _ w h0 e ∙ ap (at 0) (digits-cons 6 _ _ _ h1 refl ∙ ap (at 1) (digits-cons 5 _ _ _ h2 refl ∙ ap (at 2) (digits-cons 4 _ _ _ h3 refl
+    ∙ ap (at 3) (digits-cons 3 _ _ _ h4 refl ∙ ap (at 4) (digits-cons 2 _ _ _ h5 refl ∙ ap (at 5) (digits-cons 1 _ _ _ h6 refl ∙ ap (at 6) (digits-cons 0 _ 0 _ h7 (omega arith))))))))
+    ∙ eight x l
+  where
+    at : ℕ → List ℕ → List ℕ
+    at i t = getD x i 0 ∷ t
 
 -- ---- the rules
 

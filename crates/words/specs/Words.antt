@@ -2,20 +2,18 @@
 -- and the end time of P." Words 2 r and 2 r + 1 are rule r's; the last two are the monitor's own. Every list of words holds some monitor.
 -- Assumes nothing.
 use mathlib.Core.Path.{_≡_}
-use mathlib.Core.List.{List, [], _∷_}
+use mathlib.Core.List.{List}
 use Prim.Native.Nat.{ℕ, _+_, _*_, _/_, _%_, _≤_}
 use lib.ListN.{length, getD, set, replicate}
 use Rattle.step.specs.declared.RuleState.{RuleState}
 use Rattle.step.specs.Upto.{mapN}
-use Rattle.step.specs.Steps.{zeros}
+use Rattle.step.specs.Steps.{zeros, digits}
 
 -- ---- a rule's two words
 
--- the eight recogniser states, a byte each
+-- the eight recogniser states, a byte each, the first range's lowest
 abbrev pub statesIn : ℕ → List ℕ
-statesIn word =
-    word % 256 ∷ word / 256 % 256 ∷ word / 65536 % 256 ∷ word / 16777216 % 256
-    ∷ word / 4294967296 % 256 ∷ word / 1099511627776 % 256 ∷ word / 281474976710656 % 256 ∷ word / 72057594037927936 % 256 ∷ []
+statesIn word = digits 8 word
 
 -- the state of a rule: in the second word its fragment number, a byte; its count, two bytes from the third on; and the end time of P, the upper half
 unfoldable pub stateIn : ℕ → ℕ → RuleState

@@ -19,9 +19,8 @@ fn wide(x: u8) -> u64
 fn states_word(x: [u8; 8]) -> u64
     ensures { λ r. ⌜ statesIn r ≡ x ⌝ }
 {
-    let low = wide(x[0]) + 256 * wide(x[1]) + 65536 * wide(x[2]) + 16777216 * wide(x[3]);
-    let high = wide(x[4]) + 256 * wide(x[5]) + 65536 * wide(x[6]) + 16777216 * wide(x[7]);
-    low + 4294967296 * high
+    let high = wide(x[4]) + 256 * (wide(x[5]) + 256 * (wide(x[6]) + 256 * wide(x[7])));
+    wide(x[0]) + 256 * (wide(x[1]) + 256 * (wide(x[2]) + 256 * (wide(x[3]) + 256 * high)))
 }
 
 // The word of a fragment number, a count and an end time of P.
@@ -35,16 +34,7 @@ fn place_word(fragment: u8, count: u16, end: u32) -> u64
 fn state_in(states: u64, place: u64) -> RuleState
     ensures { λ r. ⌜ r ≡ stateIn states place ⌝ }
 {
-    let x = [
-        (states % 256) as u8,
-        (states / 256 % 256) as u8,
-        (states / 65536 % 256) as u8,
-        (states / 16777216 % 256) as u8,
-        (states / 4294967296 % 256) as u8,
-        (states / 1099511627776 % 256) as u8,
-        (states / 281474976710656 % 256) as u8,
-        (states / 72057594037927936 % 256) as u8,
-    ];
+    let x = step::spread(states);
     RuleState {
         fragment: (place % 256) as u8,
         states: x,

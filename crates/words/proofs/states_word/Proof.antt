@@ -17,23 +17,11 @@ array-read-wide-2 c = search needs
 wide-requires-2 : tie.Need-wide-requires-2
 wide-requires-2 c κs = search needs
 
-mul-low : tie.Need-mul-low
-mul-low c = search needs
-
-add-low : tie.Need-add-low
-add-low c = search needs
-
 array-read-wide-3 : tie.Need-array-read-wide-3
 array-read-wide-3 c = search needs
 
 wide-requires-3 : tie.Need-wide-requires-3
 wide-requires-3 c κs = search needs
-
-mul-low-2 : tie.Need-mul-low-2
-mul-low-2 c = search needs
-
-add-low-2 : tie.Need-add-low-2
-add-low-2 c = search needs
 
 array-read-wide-4 : tie.Need-array-read-wide-4
 array-read-wide-4 c = search needs
@@ -41,11 +29,23 @@ array-read-wide-4 c = search needs
 wide-requires-4 : tie.Need-wide-requires-4
 wide-requires-4 c κs = search needs
 
-mul-low-3 : tie.Need-mul-low-3
-mul-low-3 c = search needs
+mul-high : tie.Need-mul-high
+mul-high c = search needs
 
-add-low-3 : tie.Need-add-low-3
-add-low-3 c = search needs
+add-high : tie.Need-add-high
+add-high c = search needs
+
+mul-high-2 : tie.Need-mul-high-2
+mul-high-2 c = search needs
+
+add-high-2 : tie.Need-add-high-2
+add-high-2 c = search needs
+
+mul-high-3 : tie.Need-mul-high-3
+mul-high-3 c = search needs
+
+add-high-3 : tie.Need-add-high-3
+add-high-3 c = search needs
 
 array-read-wide-5 : tie.Need-array-read-wide-5
 array-read-wide-5 c = search needs
@@ -59,23 +59,11 @@ array-read-wide-6 c = search needs
 wide-requires-6 : tie.Need-wide-requires-6
 wide-requires-6 c κs = search needs
 
-mul-high : tie.Need-mul-high
-mul-high c = search needs
-
-add-high : tie.Need-add-high
-add-high c = search needs
-
 array-read-wide-7 : tie.Need-array-read-wide-7
 array-read-wide-7 c = search needs
 
 wide-requires-7 : tie.Need-wide-requires-7
 wide-requires-7 c κs = search needs
-
-mul-high-2 : tie.Need-mul-high-2
-mul-high-2 c = search needs
-
-add-high-2 : tie.Need-add-high-2
-add-high-2 c = search needs
 
 array-read-wide-8 : tie.Need-array-read-wide-8
 array-read-wide-8 c = search needs
@@ -83,31 +71,43 @@ array-read-wide-8 c = search needs
 wide-requires-8 : tie.Need-wide-requires-8
 wide-requires-8 c κs = search needs
 
-mul-high-3 : tie.Need-mul-high-3
-mul-high-3 c = search needs
-
-add-high-3 : tie.Need-add-high-3
-add-high-3 c = search needs
-
 mul-result : tie.Need-mul-result
 mul-result c = search needs
 
 add-result : tie.Need-add-result
 add-result c = search needs
 
+mul-result-2 : tie.Need-mul-result-2
+mul-result-2 c = search needs
+
+add-result-2 : tie.Need-add-result-2
+add-result-2 c = search needs
+
+mul-result-3 : tie.Need-mul-result-3
+mul-result-3 c = search needs
+
+add-result-3 : tie.Need-add-result-3
+add-result-3 c = search needs
+
+mul-result-4 : tie.Need-mul-result-4
+mul-result-4 c = search needs
+
+add-result-4 : tie.Need-add-result-4
+add-result-4 c = search needs
+
 returns : tie.Need-returns
 returns c =
     let x = c .before .before .before .before .before .before .before .before .args .t1 in
     states-back x (search needs)
-    (omega (arith, c .before .before .before .before .before .before .before .wide .ensures .0, c .before .before .before .before .before .before .before .wide .ensures .1))
-    (omega (arith, c .before .before .before .before .before .before .wide2 .ensures .0, c .before .before .before .before .before .before .wide2 .ensures .1))
-    (omega (arith, c .before .before .before .before .before .wide3 .ensures .0, c .before .before .before .before .before .wide3 .ensures .1))
-    (omega (arith, c .before .before .before .before .wide4 .ensures .0, c .before .before .before .before .wide4 .ensures .1))
     (omega (arith, c .before .before .before .wide5 .ensures .0, c .before .before .before .wide5 .ensures .1))
     (omega (arith, c .before .before .wide6 .ensures .0, c .before .before .wide6 .ensures .1))
     (omega (arith, c .before .wide7 .ensures .0, c .before .wide7 .ensures .1))
     (omega (arith, c .wide8 .ensures .0, c .wide8 .ensures .1))
-    _ (omega (arith, c .before .before .before .before .before .before .before .wide .ensures .0, c .before .before .before .before .before .before .wide2 .ensures .0, c .before .before .before .before .before .wide3 .ensures .0, c .before .before .before .before .wide4 .ensures .0, c .before .before .before .wide5 .ensures .0, c .before .before .wide6 .ensures .0, c .before .wide7 .ensures .0, c .wide8 .ensures .0))
+    (omega (arith, c .before .before .before .before .before .before .before .wide .ensures .0, c .before .before .before .before .before .before .before .wide .ensures .1))
+    (omega (arith, c .before .before .before .before .before .before .wide2 .ensures .0, c .before .before .before .before .before .before .wide2 .ensures .1))
+    (omega (arith, c .before .before .before .before .before .wide3 .ensures .0, c .before .before .before .before .before .wide3 .ensures .1))
+    (omega (arith, c .before .before .before .before .wide4 .ensures .0, c .before .before .before .before .wide4 .ensures .1))
+    _ (omega (arith, c .before .before .before .wide5 .ensures .0, c .before .before .wide6 .ensures .0, c .before .wide7 .ensures .0, c .wide8 .ensures .0, c .before .before .before .before .before .before .before .wide .ensures .0, c .before .before .before .before .before .before .wide2 .ensures .0, c .before .before .before .before .before .wide3 .ensures .0, c .before .before .before .before .wide4 .ensures .0))
 
 pub states-word-spec : {M : Type 1} → statement M
 states-word-spec =
@@ -117,30 +117,30 @@ states-word-spec =
     wide-requires
     array-read-wide-2
     wide-requires-2
-    mul-low
-    add-low
     array-read-wide-3
     wide-requires-3
-    mul-low-2
-    add-low-2
     array-read-wide-4
     wide-requires-4
-    mul-low-3
-    add-low-3
+    mul-high
+    add-high
+    mul-high-2
+    add-high-2
+    mul-high-3
+    add-high-3
     array-read-wide-5
     wide-requires-5
     array-read-wide-6
     wide-requires-6
-    mul-high
-    add-high
     array-read-wide-7
     wide-requires-7
-    mul-high-2
-    add-high-2
     array-read-wide-8
     wide-requires-8
-    mul-high-3
-    add-high-3
     mul-result
     add-result
+    mul-result-2
+    add-result-2
+    mul-result-3
+    add-result-3
+    mul-result-4
+    add-result-4
     returns)
