@@ -218,7 +218,7 @@ pub fn fresh_states(size: usize) -> [u8; 8]
     x
 }
 
-// The state, besides idle and done, in which *next* finds nothing to wait for: a range that has not occurred may be left out if the join is any.
+// Waiting, where a range that has not occurred may be left out ("0 if any, 5 if all"); else idle, which *next* is no error to anyway.
 fn left_out(join: u8) -> u8
     ensures { λ r. ⌜ r ≡ cond (eqb join 0) 0 2 ⌝ }
 {
@@ -255,13 +255,16 @@ fn takes(s: u8, count: u16, v: u16) -> bool
 fn over(class: u8, s: u8, join: u8, count: u16, word: u64) -> bool
     ensures { λ r. ⌜ r ≡ overAt class s join count word ⌝ }
 {
-    if class == 2 {
-        return closes(s, join, count, book::low(word));
-    }
     if class == 0 {
         return !takes(s, count, book::high(word));
     }
-    s == 0
+    if s == 0 {
+        return true;
+    }
+    if class == 2 {
+        return closes(s, join, count, book::low(word));
+    }
+    false
 }
 
 // Every range is over. By 2 the fragment is complete and may be followed; by 0 it cannot take one more event. By 2 and 3 all become idle, and none is moved to tell that. The first that is not over ends the search.
