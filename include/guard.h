@@ -1,5 +1,5 @@
 /* The guard for C and C++ hosts: one call over a stored log, and a live session over memory that the host lends.
- * Link with target/staticlib/libhost.a, which `rt staticlib host` proves and writes (x86-64). docs/EMBEDDING.md says what is proved, and what the host must keep true. */
+ * Link with target/staticlib/libhost.a, which `hosts/build` proves and writes (x86-64). docs/EMBEDDING.md says what is proved, and what the host must keep true. */
 #ifndef GUARD_H
 #define GUARD_H
 

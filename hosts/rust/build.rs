@@ -1,4 +1,4 @@
-//! Links libhost.a: from GUARD_LIB_DIR, or else from where `rt staticlib host` writes it in this repository.
+//! Links libhost.a: from GUARD_LIB_DIR, or else from where `hosts/build` writes it in this repository.
 
 use std::env;
 use std::path::{Path, PathBuf};
@@ -14,7 +14,7 @@ fn main() {
     let library = folder.join("libhost.a");
     if !library.is_file() {
         eprintln!(
-            "{} is not there: run `rt staticlib host` in the repository, or set GUARD_LIB_DIR to the folder that has libhost.a",
+            "{} is not there: run `hosts/build` in the repository, or set GUARD_LIB_DIR to the folder that has libhost.a",
             library.display()
         );
         exit(1);

@@ -1,4 +1,3 @@
 pub mod Places
 pub mod Stores
 pub mod Outcomes
-pub mod Lending

@@ -8,8 +8,6 @@ ghost use Rattle.layout.specs.Layout.{le};
 ghost use Rattle.host.specs.Host.{Outcomes, Calls, twelve, stored};
 use runner::Outcome;
 
-mod live;
-
 // ---- the five numbers
 
 // The five numbers for a sheet, a log and a budget: the sheet's refusal ("Mask is 0 for .. refusals 1 to 10", and nothing is taken), or what the run over the log says.

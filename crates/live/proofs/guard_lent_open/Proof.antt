@@ -1,11 +1,11 @@
--- `host::live::guard_lent_open` keeps its promise, by the reader's answer. The place of a refusal fits a u32, however long the sheet is. Assumes nothing.
+-- `live::guard_lent_open` keeps its promise, by the reader's answer. The place of a refusal fits a u32, however long the sheet is. Assumes nothing.
 use native.Mathlib.Omega.{arith}
 use Rattle.layout.proofs.Fields.{bytes-of}
 use Rattle.host.proofs.Outcomes.{place-fits}
-use Rattle.host.proofs.Lending.{opens-accepted, opens-refused}
+use Rattle.live.proofs.Lending.{opens-accepted, opens-refused}
 use borrow.Author.Needs.{needs}
-use Rattle.host.proofs.live.guard_lent_open.Statement.{statement}
-use Rattle.host.proofs.live.guard_lent_open.Tie as tie
+use Rattle.live.proofs.guard_lent_open.Statement.{statement}
+use Rattle.live.proofs.guard_lent_open.Tie as tie
 
 translate-requires : tie.Need-translate-requires
 translate-requires c κs = search needs

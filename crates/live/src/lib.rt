@@ -5,7 +5,7 @@ ghost use Prim.Native.Nat.{_+_, _*_, _<_};
 ghost use Rattle.pattern.specs.Judge.{event, clock};
 ghost use Rattle.words.specs.Words.{heldBy};
 ghost use Rattle.monitor.specs.Promise.{Freshes, said};
-ghost use Rattle.host.specs.Live.{answerWord, refusedWord, OpensLent, Narrowed, NotesLent, verdictIs};
+ghost use Rattle.live.specs.Live.{answerWord, refusedWord, OpensLent, Narrowed, NotesLent, verdictIs};
 use monitor::Answer;
 use monitor::Observation;
 

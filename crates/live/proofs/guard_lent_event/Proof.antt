@@ -1,8 +1,8 @@
--- `host::live::guard_lent_event` keeps its promise. Assumes nothing.
-use Rattle.host.proofs.Lending.{notes, notes-named}
+-- `live::guard_lent_event` keeps its promise. Assumes nothing.
+use Rattle.live.proofs.Lending.{notes, notes-named}
 use borrow.Author.Needs.{needs}
-use Rattle.host.proofs.live.guard_lent_event.Statement.{statement}
-use Rattle.host.proofs.live.guard_lent_event.Tie as tie
+use Rattle.live.proofs.guard_lent_event.Statement.{statement}
+use Rattle.live.proofs.guard_lent_event.Tie as tie
 
 narrowed-requires : tie.Need-narrowed-requires
 narrowed-requires c κs = search needs

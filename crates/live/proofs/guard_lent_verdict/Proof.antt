@@ -1,9 +1,9 @@
--- `host::live::guard_lent_verdict` keeps its promise. Assumes nothing.
+-- `live::guard_lent_verdict` keeps its promise. Assumes nothing.
 use denote.Ref.{now}
-use Rattle.host.proofs.Lending.{tells}
+use Rattle.live.proofs.Lending.{tells}
 use borrow.Author.Needs.{needs}
-use Rattle.host.proofs.live.guard_lent_verdict.Statement.{statement}
-use Rattle.host.proofs.live.guard_lent_verdict.Tie as tie
+use Rattle.live.proofs.guard_lent_verdict.Statement.{statement}
+use Rattle.live.proofs.guard_lent_verdict.Tie as tie
 
 verdict-requires : tie.Need-verdict-requires
 verdict-requires c κs = search needs

@@ -1,8 +1,8 @@
--- `host::live::guard_lent_clock` keeps its promise. Assumes nothing.
-use Rattle.host.proofs.Lending.{notes}
+-- `live::guard_lent_clock` keeps its promise. Assumes nothing.
+use Rattle.live.proofs.Lending.{notes}
 use borrow.Author.Needs.{needs}
-use Rattle.host.proofs.live.guard_lent_clock.Statement.{statement}
-use Rattle.host.proofs.live.guard_lent_clock.Tie as tie
+use Rattle.live.proofs.guard_lent_clock.Statement.{statement}
+use Rattle.live.proofs.guard_lent_clock.Tie as tie
 
 observe-requires : tie.Need-observe-requires
 observe-requires c κs = search needs

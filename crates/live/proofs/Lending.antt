@@ -29,7 +29,7 @@ use Rattle.monitor.specs.declared.Answer.the-variants.{Whole, Open, Broken}
 use Rattle.monitor.specs.declared.Answer.the-variants as A
 use Rattle.monitor.specs.declared.Observation.{Observation as Seen}
 use Rattle.monitor.proofs.Agreement.{follows-taken, follows-verdict}
-use Rattle.host.specs.Live.{answerWord, refusedWord, Arrays, OpensBy, OpensLent, Narrowed, Notes, NotesLent, verdictIs, Live, none, call, LiveAgrees}
+use Rattle.live.specs.Live.{answerWord, refusedWord, Arrays, OpensBy, OpensLent, Narrowed, Notes, NotesLent, verdictIs, Live, none, call, LiveAgrees}
 
 -- ---- opening
 
