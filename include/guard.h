@@ -76,14 +76,14 @@ typedef struct guard_answer {
     uint32_t place;
 } guard_answer;
 
-/* The calls as the library has them: a book's five arrays one by one, and an answer's four fields in one number, lowest first. Use the functions below. */
+/* The calls as the library has them: a book's five arrays one by one, and an answer's four fields in one number, lowest first. The observing call takes a record's name:
+ * GUARD_CLOCK is a clock reading. Use the functions below. */
+#define GUARD_CLOCK 255u
 uint64_t guard_lent_open(const uint8_t *sheet, size_t sheet_length, uint64_t *heads, uint16_t *fragments, uint64_t *names, uint64_t *ranges, uint16_t *holders,
                          uint64_t *monitor);
 void guard_lent_start(const uint16_t *fragments, uint64_t *monitor);
-uint64_t guard_lent_event(const uint64_t *heads, const uint16_t *fragments, const uint64_t *names, const uint64_t *ranges, const uint16_t *holders, uint64_t *monitor,
-                          uint32_t name, uint32_t time);
-uint64_t guard_lent_clock(const uint64_t *heads, const uint16_t *fragments, const uint64_t *names, const uint64_t *ranges, const uint16_t *holders, uint64_t *monitor,
-                          uint32_t time);
+uint64_t guard_lent_observe(const uint64_t *heads, const uint16_t *fragments, const uint64_t *names, const uint64_t *ranges, const uint16_t *holders, uint64_t *monitor,
+                            uint32_t name, uint32_t time);
 uint64_t guard_lent_verdict(const uint64_t *monitor);
 uint32_t guard_lent_taken(const uint64_t *monitor);
 
@@ -113,13 +113,15 @@ static inline void guard_start(const guard_book *book, guard_monitor *monitor)
  * observation gets the same answer. */
 static inline guard_answer guard_event(const guard_book *book, guard_monitor *monitor, uint32_t name, uint32_t time)
 {
-    return guard_answer_of(guard_lent_event(book->heads, book->fragments, book->names, book->ranges, book->holders, monitor->words, name, time));
+    /* 255 is no name here, and 256 is refused as it */
+    return guard_answer_of(
+        guard_lent_observe(book->heads, book->fragments, book->names, book->ranges, book->holders, monitor->words, name == GUARD_CLOCK ? GUARD_CLOCK + 1 : name, time));
 }
 
 /* A time alone: what a host's timer calls, so that a deadline is noticed while no call is made. */
 static inline guard_answer guard_clock(const guard_book *book, guard_monitor *monitor, uint32_t time)
 {
-    return guard_answer_of(guard_lent_clock(book->heads, book->fragments, book->names, book->ranges, book->holders, monitor->words, time));
+    return guard_answer_of(guard_lent_observe(book->heads, book->fragments, book->names, book->ranges, book->holders, monitor->words, GUARD_CLOCK, time));
 }
 
 /* The verdict that the monitor holds: whole, open or broken. */

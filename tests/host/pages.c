@@ -147,8 +147,8 @@ static struct lent lent_at(int at_end)
 
 static guard_answer observe_lent(const struct lent *l, struct observation o)
 {
-    return guard_answer_of(o.clock ? guard_lent_clock(l->heads, l->fragments, l->names, l->ranges, l->holders, l->monitor, o.time)
-                                   : guard_lent_event(l->heads, l->fragments, l->names, l->ranges, l->holders, l->monitor, o.name, o.time));
+    uint32_t name = o.clock ? GUARD_CLOCK : o.name == GUARD_CLOCK ? GUARD_CLOCK + 1 : o.name;
+    return guard_answer_of(guard_lent_observe(l->heads, l->fragments, l->names, l->ranges, l->holders, l->monitor, name, o.time));
 }
 
 static long wrong_lent(const struct reference_case *c, const struct lent *l)

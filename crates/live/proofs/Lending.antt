@@ -7,8 +7,8 @@ use Prim.Native.Nat.{ℕ, _%_, _<_, _≤_}
 use native.Mathlib.Omega.{arith}
 use lib.Dec.{leb}
 use denote.Enum.Declared.{tagOf}
-use borrow.Author.Tests.{leb-true, leb-false, le-leb}
-use Rattle.pattern.specs.Judge.{Observation, event, Oracle, Right, Verdict, allWhole, someOpen, brokenAt, Kept, nothing, Turn, judge, unlessBroken, judgeAnswers, judgeKeeps}
+use borrow.Author.Tests.{leb-true, leb-false, le-leb, eq-eqb, ne-eqb}
+use Rattle.pattern.specs.Judge.{Observation, event, clock, Oracle, Right, Verdict, allWhole, someOpen, brokenAt, Kept, nothing, Turn, judge, unlessBroken, judgeAnswers, judgeKeeps}
 use Rattle.pattern.specs.Judge as J
 use Rattle.layout.specs.Layout.{Sheet, WellFormedSheet, Bytes}
 use Rattle.layout.specs.Reading.{accepted, refused, readSheet}
@@ -28,8 +28,9 @@ use Rattle.monitor.specs.declared.Answer.{Answer}
 use Rattle.monitor.specs.declared.Answer.the-variants.{Whole, Open, Broken}
 use Rattle.monitor.specs.declared.Answer.the-variants as A
 use Rattle.monitor.specs.declared.Observation.{Observation as Seen}
+use Rattle.runner.specs.Log.{observation}
 use Rattle.monitor.proofs.Agreement.{follows-taken, follows-verdict}
-use Rattle.live.specs.Live.{answerWord, refusedWord, Arrays, OpensBy, OpensLent, Narrowed, Notes, NotesLent, verdictIs, Live, none, call, LiveAgrees}
+use Rattle.live.specs.Live.{answerWord, refusedWord, Arrays, OpensBy, OpensLent, Narrowed, SameTurn, Notes, NotesLent, verdictIs, Live, none, call, LiveAgrees}
 
 -- ---- opening
 
@@ -71,6 +72,12 @@ same-turn oracle k name n time w = look (leb 64 name) refl
     look true q = both (k .verdict) (le-leb 64 n (w .large (leb-true 64 name q))) q
     look false q = ap (λ (i : ℕ). judge oracle k (event i time)) (w .small (leb-false 64 name q))
 
+pub same-event : (name n time : ℕ) → (name ≡ 255 → ⊥) → Narrowed name n → SameTurn (event n time) (observation name time)
+same-event name n time h w oracle k = same-turn oracle k name n time w ∙ ap (judge oracle k) (sym (rw (ne-eqb name 255 h)))
+
+pub same-clock : (name time : ℕ) → name ≡ 255 → SameTurn (clock time) (observation name time)
+same-clock name time h oracle k = ap (judge oracle k) (sym (rw (eq-eqb name 255 h)))
+
 -- ---- observing
 
 refusal : (a : Answer) → answerWord (said a) % 256 ≡ 3 → (n : ℕ) × (said a ≡ J.refused n)
@@ -89,13 +96,13 @@ module _ {heads fragments names ranges holders before after : List ℕ} {o : See
         unchanged = λ h. (let (n, is) = refusal a (ap (λ (x : ℕ). x % 256) (sym e) ∙ h) in p .unchanged n is);
       }
 
-module _ {heads fragments names ranges holders before after : List ℕ} {r : ℕ} where
-  pub notes-named : (name n time : ℕ) → Narrowed name n → NotesLent heads fragments names ranges holders before (event n time) r after → NotesLent heads fragments names ranges holders before (event name time) r after
-  notes-named name n time w p b lent =
+module _ {heads fragments names ranges holders before after : List ℕ} {o o′ : Observation} {r : ℕ} where
+  pub notes-same : SameTurn o o′ → NotesLent heads fragments names ranges holders before o r after → NotesLent heads fragments names ranges holders before o′ r after
+  notes-same same p b lent =
       let q = p b lent in
       record {
-        answers = λ S k f oracle right. q .answers S k f oracle right ∙ ap (λ (t : Turn). answerWord (t .answer)) (same-turn oracle k name n time w);
-        follows = λ S k f oracle right. subst (λ (t : Turn). Follows S (t .kept) b after) (same-turn oracle k name n time w) (q .follows S k f oracle right);
+        answers = λ S k f oracle right. q .answers S k f oracle right ∙ ap (λ (t : Turn). answerWord (t .answer)) (same oracle k);
+        follows = λ S k f oracle right. subst (λ (t : Turn). Follows S (t .kept) b after) (same oracle k) (q .follows S k f oracle right);
         unchanged = q .unchanged;
       }
 

@@ -54,6 +54,10 @@ pub record Narrowed (name n : ℕ) : Type 0 where
   pub small : name < 64 → n ≡ name
   pub large : 64 ≤ name → 64 ≤ n
 
+-- two observations that are one to every judge
+abbrev pub SameTurn : Observation → Observation → Type 0
+SameTurn o o′ = (oracle : Oracle) (k : Kept) → judge oracle k o ≡ judge oracle k o′
+
 -- ---- observing: the judge's next answer, and the monitor follows what the judge then keeps; a refused observation leaves every word as it was. Of a book and a monitor that follow no
 -- judge's list nothing else is promised but that the call returns
 

@@ -2,10 +2,10 @@
 // opening writes and nothing else changes, and the monitor's 34 words. An answer is one number: answer, refusal, mask, place, lowest first.
 ghost use mathlib.Core.Path.{_≡_};
 ghost use Prim.Native.Nat.{_+_, _*_, _<_};
-ghost use Rattle.pattern.specs.Judge.{event, clock};
 ghost use Rattle.words.specs.Words.{heldBy};
-ghost use Rattle.monitor.specs.Promise.{Freshes, said};
-ghost use Rattle.live.specs.Live.{answerWord, refusedWord, OpensLent, Narrowed, NotesLent, verdictIs};
+ghost use Rattle.monitor.specs.Promise.{Freshes, said, seen};
+ghost use Rattle.runner.specs.Log.{observation};
+ghost use Rattle.live.specs.Live.{answerWord, refusedWord, OpensLent, Narrowed, SameTurn, NotesLent, verdictIs};
 use monitor::Answer;
 use monitor::Observation;
 
@@ -100,9 +100,19 @@ fn narrowed(name: u32) -> u8
     name as u8
 }
 
-// One event.
+// "a name 0 to 63 or FF for a clock reading", as in a log; any other number is a name that observing refuses.
+fn observation(name: u32, time: u32) -> Observation
+    ensures { λ o. ⌜ SameTurn (seen o) (observation name time) ⌝ }
+{
+    match name {
+        255 => Observation::Clock(time),
+        _ => Observation::Event(narrowed(name), time),
+    }
+}
+
+// One observation: an event or a clock reading. One call serves both, so that the compiled library has the monitor's code once, without a call to it.
 #[no_mangle]
-pub extern "C" fn guard_lent_event<'a>(
+pub extern "C" fn guard_lent_observe<'a>(
     heads: &'a [u64; 16],
     fragments: &'a [u16; 256],
     names: &'a [u64; 256],
@@ -112,27 +122,9 @@ pub extern "C" fn guard_lent_event<'a>(
     name: u32,
     time: u32,
 ) -> u64
-    ensures { λ r. ⌜ NotesLent (now (heads .entry)) (now (fragments .entry)) (now (names .entry)) (now (ranges .entry)) (now (holders .entry)) (now (monitor .entry)) (event name time) r (now (monitor .exit)) ⌝ }
+    ensures { λ r. ⌜ NotesLent (now (heads .entry)) (now (fragments .entry)) (now (names .entry)) (now (ranges .entry)) (now (holders .entry)) (now (monitor .entry)) (observation name time) r (now (monitor .exit)) ⌝ }
 {
-    let o = Observation::Event(narrowed(name), time);
-    let a = monitor::observe(heads, fragments, names, ranges, holders, monitor, o);
-    answer_word(a)
-}
-
-// One clock reading.
-#[no_mangle]
-pub extern "C" fn guard_lent_clock<'a>(
-    heads: &'a [u64; 16],
-    fragments: &'a [u16; 256],
-    names: &'a [u64; 256],
-    ranges: &'a [u64; 2048],
-    holders: &'a [u16; 64],
-    monitor: &mut [u64; 34],
-    time: u32,
-) -> u64
-    ensures { λ r. ⌜ NotesLent (now (heads .entry)) (now (fragments .entry)) (now (names .entry)) (now (ranges .entry)) (now (holders .entry)) (now (monitor .entry)) (clock time) r (now (monitor .exit)) ⌝ }
-{
-    let o = Observation::Clock(time);
+    let o = observation(name, time);
     let a = monitor::observe(heads, fragments, names, ranges, holders, monitor, o);
     answer_word(a)
 }

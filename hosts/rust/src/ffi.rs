@@ -37,7 +37,7 @@ extern "C" {
         monitor: *mut u64,
     ) -> u64;
     fn guard_lent_start(fragments: *const u16, monitor: *mut u64);
-    fn guard_lent_event(
+    fn guard_lent_observe(
         heads: *const u64,
         fragments: *const u16,
         names: *const u64,
@@ -45,15 +45,6 @@ extern "C" {
         holders: *const u16,
         monitor: *mut u64,
         name: u32,
-        time: u32,
-    ) -> u64;
-    fn guard_lent_clock(
-        heads: *const u64,
-        fragments: *const u16,
-        names: *const u64,
-        ranges: *const u64,
-        holders: *const u16,
-        monitor: *mut u64,
         time: u32,
     ) -> u64;
     fn guard_lent_verdict(monitor: *const u64) -> u64;
@@ -89,11 +80,23 @@ pub(crate) fn start(tables: &Tables, monitor: &mut Words) {
     unsafe { guard_lent_start(tables.fragments.as_ptr(), monitor.as_mut_ptr()) }
 }
 
-/// One event.
+/// The name of a clock reading, as in a log.
+const CLOCK: u32 = 255;
+
+/// One event. 255 is no name here, and 256 is refused as it.
 pub(crate) fn event(tables: &Tables, monitor: &mut Words, name: u32, time: u32) -> u64 {
+    observe(tables, monitor, if name == CLOCK { CLOCK + 1 } else { name }, time)
+}
+
+/// One clock reading.
+pub(crate) fn clock(tables: &Tables, monitor: &mut Words, time: u32) -> u64 {
+    observe(tables, monitor, CLOCK, time)
+}
+
+fn observe(tables: &Tables, monitor: &mut Words, name: u32, time: u32) -> u64 {
     // SAFETY: the arrays have the lengths that the call wants, by their types, and it only reads them; the monitor, borrowed mutably, is apart from them.
     unsafe {
-        guard_lent_event(
+        guard_lent_observe(
             tables.heads.as_ptr(),
             tables.fragments.as_ptr(),
             tables.names.as_ptr(),
@@ -101,22 +104,6 @@ pub(crate) fn event(tables: &Tables, monitor: &mut Words, name: u32, time: u32) 
             tables.holders.as_ptr(),
             monitor.as_mut_ptr(),
             name,
-            time,
-        )
-    }
-}
-
-/// One clock reading.
-pub(crate) fn clock(tables: &Tables, monitor: &mut Words, time: u32) -> u64 {
-    // SAFETY: as for `event`.
-    unsafe {
-        guard_lent_clock(
-            tables.heads.as_ptr(),
-            tables.fragments.as_ptr(),
-            tables.names.as_ptr(),
-            tables.ranges.as_ptr(),
-            tables.holders.as_ptr(),
-            monitor.as_mut_ptr(),
             time,
         )
     }
