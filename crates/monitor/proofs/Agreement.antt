@@ -40,12 +40,14 @@ use Rattle.step.specs.Decode.{decode, HoldsFragment}
 use Rattle.step.proofs.Slots.{fresh-are}
 use Rattle.step.proofs.Status.{running, isTimed}
 use Rattle.step.proofs.Links.{Stands}
-use Rattle.words.specs.Words.{noState, heldBy, Holds}
+use Rattle.words.specs.Words.{noState, Held, heldBy, Holds}
 use Rattle.words.proofs.Places.{getD-mapN}
 use Rattle.monitor.specs.Observe.{freshRule, freshOf}
-use Rattle.monitor.specs.Promise.{said, seen, verdictIn, modelAt, Represents, Follows, Freshes, Run, done, more, RunAgrees, CodeAgreement}
+use Rattle.monitor.specs.Promise.{said, seen, verdictIn, modelAt, Represents, Tracks, Follows, Observes, Freshes, Run, done, more, CodeAgreement}
+use Rattle.monitor.specs.Value.{numbersOf, Turns, Starts}
 use Rattle.monitor.specs.declared.Observation.{Observation}
 use Rattle.monitor.specs.declared.Answer.{Answer}
+use Rattle.monitor.specs.declared.Monitor.{Monitor}
 use Rattle.monitor.proofs.Holding.{rule-formed, holds-rule}
 
 -- ---- the fresh monitor
@@ -132,39 +134,66 @@ fresh-promise fragments m h S b formed looks lent = record {
 
 -- ---- what following says of a monitor
 
+pub tracks-taken : (S : Sheet) (k : Kept) (b : Book) (m : Held) → Tracks S k b m → m .taken ≡ length (k .taken)
+tracks-taken S k b m t = t .represents .count ∙ t .follows .taken
+
+pub tracks-verdict : (S : Sheet) (k : Kept) (b : Book) (m : Held) → Tracks S k b m → verdictIn m ≡ k .verdict
+tracks-verdict S k b m t = t .represents .verdict′ ∙ t .follows .verdict
+
+-- the same of the words that hold it
 pub follows-taken : (S : Sheet) (k : Kept) (b : Book) (m : List ℕ) → Follows S k b m → heldBy m .taken ≡ length (k .taken)
-follows-taken S k b m f = f .tracks .represents .count ∙ f .tracks .follows .taken
+follows-taken S k b m f = tracks-taken S k b (heldBy m) (f .tracks)
 
 pub follows-verdict : (S : Sheet) (k : Kept) (b : Book) (m : List ℕ) → Follows S k b m → verdictIn (heldBy m) ≡ k .verdict
-follows-verdict S k b m f = f .tracks .represents .verdict′ ∙ f .tracks .follows .verdict
+follows-verdict S k b m f = tracks-verdict S k b (heldBy m) (f .tracks)
 
--- ---- the whole list
+-- ---- the whole list, for every form of the call: F says that a monitor follows what the judge keeps, and each call goes on from there
 
-module _ (S : Sheet) (b : Book) (oracle : Oracle) (right : Right (S .rules) oracle) where
-  pub record Along (k : Kept) (os : List Observation) (as′ : List Answer) (last : List ℕ) : Type 0 where
+module _ {X : Type 0} (Call : X → Observation → Answer → X → Type 0) (F : Kept → X → Type 0) (oracle : Oracle)
+    (answers : (m next : X) (o : Observation) (a : Answer) → Call m o a next → (k : Kept) → F k m → said a ≡ judge oracle k (seen o) .answer)
+    (follows : (m next : X) (o : Observation) (a : Answer) → Call m o a next → (k : Kept) → F k m → F (judge oracle k (seen o) .kept) next) where
+  pub record Along (k : Kept) (os : List Observation) (as′ : List Answer) (last : X) : Type 0 where
     pub answered : map said as′ ≡ judgeAnswers oracle k (map seen os)
-    pub follows : Follows S (judgeKeeps oracle k (map seen os)) b last
+    pub follows′ : F (judgeKeeps oracle k (map seen os)) last
 
-  along : {m last : List ℕ} {os : List Observation} {as′ : List Answer} → Run b m os as′ last → (k : Kept) → Follows S k b m → Along k os as′ last
-  along done k f = record { answered = refl; follows = f }
+  pub along : {m last : X} {os : List Observation} {as′ : List Answer} → Run Call m os as′ last → (k : Kept) → F k m → Along k os as′ last
+  along done k f = record { answered = refl; follows′ = f }
   along (more {o = o} c run) k f =
-      let a = along run (judge oracle k (seen o) .kept) (c .follows S k f oracle right) in
-      record { answered = ap₂ (λ (x : J.Answer) (l : List J.Answer). x ∷ l) (c .answers S k f oracle right) (a .answered); follows = a .follows }
+      let a = along run (judge oracle k (seen o) .kept) (follows _ _ _ _ c k f) in
+      record { answered = ap₂ (λ (x : J.Answer) (l : List J.Answer). x ∷ l) (answers _ _ _ _ c k f) (a .answered); follows′ = a .follows′ }
 
--- for every accepted sheet's bytes and every list of observations: what reading, translating, opening and observing one after the other answers is what the judge answers
-pub agreement : (bytes : List ℕ) → Bytes bytes → (t : Translation) → Translates bytes t → (S : Sheet) → readSheet bytes ≡ accepted S
-    → (m : List ℕ) → Freshes (t .book .fragments) m → (os : List Observation) (as′ : List Answer) (last : List ℕ) → Run (t .book) m os as′ last → CodeAgreement S os as′ last
-agreement bytes are t translates S is m freshes os as′ last run = record { judged = (modelOracle (S .rules), right-oracle (S .rules) (rules-formed S formed .each)); agrees = agrees }
-  where
-    formed : WellFormedSheet S
-    formed = accepted-is-encoded bytes are is .formed
+-- for every accepted sheet's bytes: a run whose calls keep F, where F says that the numbers follow, agrees
+module _ (bytes : List ℕ) (are : Bytes bytes) (t : Translation) (translates : Translates bytes t) (S : Sheet) (is : readSheet bytes ≡ accepted S) where
+  formed : WellFormedSheet S
+  formed = accepted-is-encoded bytes are is .formed
 
-    agrees : (oracle : Oracle) → Right (S .rules) oracle → RunAgrees S os as′ last oracle
-    agrees oracle right =
-        let f = freshes S (t .book) formed (translated bytes t are translates S is) refl in
-        let a = along S (t .book) oracle right run nothing f in
+  looks : Looks S (t .book)
+  looks = translated bytes t are translates S is
+
+  agreed : {X : Type 0} {os : List Observation} {as′ : List Answer} {last : X} (held : X → Held) (Call : X → Observation → Answer → X → Type 0) (F : Kept → X → Type 0)
+      → ((k : Kept) (m : X) → F k m → Tracks S k (t .book) (held m))
+      → ((oracle : Oracle) → Right (S .rules) oracle → (m next : X) (o : Observation) (a : Answer) → Call m o a next → (k : Kept) → F k m → said a ≡ judge oracle k (seen o) .answer)
+      → ((oracle : Oracle) → Right (S .rules) oracle → (m next : X) (o : Observation) (a : Answer) → Call m o a next → (k : Kept) → F k m → F (judge oracle k (seen o) .kept) next)
+      → (m : X) → F nothing m → Run Call m os as′ last → CodeAgreement S os as′ (held last)
+  agreed {X} {os} {as′} {last} held Call F tracks answers follows m f run = record {
+    judged = (modelOracle (S .rules), right-oracle (S .rules) (rules-formed S formed .each));
+    agrees = λ oracle right.
+        (let a = along Call F oracle (answers oracle right) (follows oracle right) run nothing f in
         record {
           answered = a .answered;
-          taken = follows-taken S (judgeKeeps oracle nothing (map seen os)) (t .book) last (a .follows);
-          verdict = follows-verdict S (judgeKeeps oracle nothing (map seen os)) (t .book) last (a .follows);
-        }
+          taken = tracks-taken S (judgeKeeps oracle nothing (map seen os)) (t .book) (held last) (tracks _ _ (a .follows′));
+          verdict = tracks-verdict S (judgeKeeps oracle nothing (map seen os)) (t .book) (held last) (tracks _ _ (a .follows′));
+        });
+  }
+
+  -- for every list of observations: what reading, translating, opening and observing one after the other answers is what the judge answers; in words that are changed in place
+  pub agreement : (m : List ℕ) → Freshes (t .book .fragments) m → (os : List Observation) (as′ : List Answer) (last : List ℕ) → Run (Observes (t .book)) m os as′ last → CodeAgreement S os as′ (heldBy last)
+  agreement m freshes os as′ last =
+      agreed heldBy (Observes (t .book)) (λ k w. Follows S k (t .book) w) (λ k w f. f .tracks) (λ oracle right w next o a c k f. c .answers S k f oracle right) (λ oracle right w next o a c k f. c .follows S k f oracle right)
+      m (freshes S (t .book) formed looks refl)
+
+  -- and by value
+  pub value-agreement : (m : Monitor) → Starts (t .book .fragments) m → (os : List Observation) (as′ : List Answer) (last : Monitor) → Run (Turns (t .book)) m os as′ last → CodeAgreement S os as′ (numbersOf last)
+  value-agreement m starts os as′ last =
+      agreed numbersOf (Turns (t .book)) (λ k x. Tracks S k (t .book) (numbersOf x)) (λ k x f. f) (λ oracle right x next o a c k f. c .answers S k f oracle right) (λ oracle right x next o a c k f. c .follows S k f oracle right)
+      m (starts S (t .book) formed looks refl)

@@ -55,7 +55,7 @@ made : {rules rules′ : List RuleState} {br op du br′ op′ du′ : ℕ} → 
     → _≡_ {A = Pass} (record { rules = rules; broken = br; opens = op; dues = du }) (record { rules = rules′; broken = br′; opens = op′; dues = du′ })
 made a b c d = rw (a, b, c, d)
 
-getD-any : {A : Type 0} (l : List A) (i : ℕ) (d e : A) → i < length l → getD l i d ≡ getD l i e
+pub getD-any : {A : Type 0} (l : List A) (i : ℕ) (d e : A) → i < length l → getD l i d ≡ getD l i e
 getD-any [] i d e h = absurd (omega arith)
 getD-any (x ∷ l) zero d e h = refl
 getD-any (x ∷ l) (suc i) d e h = getD-any l i d e (omega arith)

@@ -1,3 +1,4 @@
 pub mod Pass
 pub mod Observe
 pub mod Promise
+pub mod Value

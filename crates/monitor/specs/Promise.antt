@@ -43,9 +43,12 @@ seen (Clock time) = J.clock time
 abbrev pub verdictIn : Held → Verdict
 verdictIn m = cond (eqb (m .verdict) 2) (brokenAt (m .taken) (m .mask)) (cond (eqb (m .verdict) 1) (someOpen (m .mask)) allWhole)
 
--- an answer says the verdict that the monitor in these words holds
+-- an answer says the verdict that a monitor holds, by its numbers and in words
+abbrev pub SaysOf : Answer → Held → Type 0
+SaysOf a m = said a ≡ J.verdict (verdictIn m)
+
 abbrev pub Says : Answer → List ℕ → Type 0
-Says a m = said a ≡ J.verdict (verdictIn (heldBy m))
+Says a m = SaysOf a (heldBy m)
 
 -- ---- a monitor's numbers, and the state of the model that they stand for
 
@@ -121,18 +124,18 @@ Freshes fragments m = (S : Sheet) (b : Book) → WellFormedSheet S → Looks S b
 
 -- ---- a run of calls
 
--- one observation after the other, each on what the last one left; `Observes` is all that the call promises
-pub data Run (b : Book) : List ℕ → List Observation → List Answer → List ℕ → Type 0 where
-  done : {m : List ℕ} → Run b m [] [] m
-  more : {m next last : List ℕ} {o : Observation} {os : List Observation} {a : Answer} {as′ : List Answer} → Observes b m o a next → Run b next os as′ last → Run b m (o ∷ os) (a ∷ as′) last
+-- one observation after the other, each on what the last one left; what a call promises is all that is known of it. A call is one in words (`Observes`) or by value (`Value`'s `Turns`)
+pub data Run {X : Type 0} (Call : X → Observation → Answer → X → Type 0) : X → List Observation → List Answer → X → Type 0 where
+  done : {m : X} → Run Call m [] [] m
+  more : {m next last : X} {o : Observation} {os : List Observation} {a : Answer} {as′ : List Answer} → Call m o a next → Run Call next os as′ last → Run Call m (o ∷ os) (a ∷ as′) last
 
--- demand 3 for such a run: the judge's answers in order, the length of its list, and its verdict
-pub record RunAgrees (S : Sheet) (os : List Observation) (as′ : List Answer) (m : List ℕ) (oracle : Oracle) : Type 0 where
+-- demand 3 for such a run: the judge's answers in order, the length of its list, and its verdict, in the numbers of the monitor that the last call left
+pub record RunAgrees (S : Sheet) (os : List Observation) (as′ : List Answer) (m : Held) (oracle : Oracle) : Type 0 where
   pub answered : map said as′ ≡ judgeAnswers oracle nothing (map seen os)
-  pub taken : heldBy m .taken ≡ length (judgeKeeps oracle nothing (map seen os) .taken)
-  pub verdict : verdictIn (heldBy m) ≡ judgeKeeps oracle nothing (map seen os) .verdict
+  pub taken : m .taken ≡ length (judgeKeeps oracle nothing (map seen os) .taken)
+  pub verdict : verdictIn m ≡ judgeKeeps oracle nothing (map seen os) .verdict
 
-pub record CodeAgreement (S : Sheet) (os : List Observation) (as′ : List Answer) (m : List ℕ) : Type 0 where
+pub record CodeAgreement (S : Sheet) (os : List Observation) (as′ : List Answer) (m : Held) : Type 0 where
   -- a judge exists, and with every one of them the run agrees
   pub judged : (oracle : Oracle) × Right (S .rules) oracle
   pub agrees : (oracle : Oracle) → Right (S .rules) oracle → RunAgrees S os as′ m oracle

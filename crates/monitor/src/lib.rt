@@ -6,7 +6,9 @@ ghost use lib.ListN.{length};
 ghost use Rattle.words.specs.Words.{heldBy, rulesIn, Holds};
 ghost use Rattle.monitor.specs.Pass.{isOpen, Steps, Passes};
 ghost use Rattle.monitor.specs.Observe.{nameOf, timeOf, concernedBy, judgedOf, takenOf, observeOf, freshOf};
-ghost use Rattle.monitor.specs.Promise.{Judges, Leaves, ObservesLent, Freshes, Says};
+ghost use Rattle.monitor.specs.Promise.{Judges, Leaves, ObservesLent, Freshes, Says, SaysOf};
+ghost use Rattle.monitor.specs.Value.{numbersOf, TurnsLent, Starts};
+use step::RuleState;
 
 // ---- the sixteen rules
 
@@ -268,7 +270,7 @@ fn unstarted(fragments: &[u16; 256]) -> [u64; 34]
     while r < 16 {
         let size = book::ranges_in(fragments[16 * r]) as usize;
         let states = step::fresh_states(size);
-        let st = step::RuleState {
+        let st = RuleState {
             fragment: 0,
             states: states,
             count: 0,
@@ -330,9 +332,15 @@ pub fn count(m: &[u64; 34]) -> u32
 
 // ---- the monitor as a value, for a session that keeps one
 
-// A monitor: its words.
+// "The monitor's state holds, for each rule, its fragment number, eight recogniser states, one count and the end time of P." Beside the sixteen: the number taken, the latest time, the
+// verdict (0 whole, 1 open, 2 broken) with its mask, and the rules whose deadline runs.
 pub struct Monitor {
-    pub words: [u64; 34],
+    pub rules: [RuleState; 16],
+    pub taken: u32,
+    pub latest: u32,
+    pub verdict: u8,
+    pub mask: u16,
+    pub dues: u16,
 }
 
 // A monitor after an observation, and the answer.
@@ -341,7 +349,66 @@ pub struct Answered {
     pub answer: Answer,
 }
 
-// One observation by value: what `observe` does to the words, done to a copy.
+// Sixteen states in words, and nothing beside them.
+fn rules_in_words(rules: [RuleState; 16]) -> [u64; 34]
+    ensures { λ w. ⌜ (length w ≡ 34) × (rulesIn w ≡ rules) ⌝ }
+{
+    let mut w = [0u64; 34];
+    let mut r = 0usize;
+    while r < 16 {
+        let st = rules[r];
+        words::store(&mut w, r, st);
+        r = r + 1;
+    }
+    w
+}
+
+// A monitor in words.
+fn in_words(m: Monitor) -> [u64; 34]
+    ensures { λ w. ⌜ Holds w (numbersOf m) ⌝ }
+{
+    let rules = m.rules;
+    let mut w = rules_in_words(rules);
+    words::settle(&mut w, m.taken, m.latest, m.verdict, m.mask, m.dues);
+    w
+}
+
+// The sixteen states that words hold.
+fn rules_of(w: &[u64; 34]) -> [RuleState; 16]
+    ensures { λ rules. ⌜ rules ≡ rulesIn (now (w .entry)) ⌝ }
+{
+    let none = RuleState {
+        fragment: 0,
+        states: [0u8; 8],
+        count: 0,
+        end: 0,
+    };
+    let mut rules = [none; 16];
+    let mut r = 0usize;
+    while r < 16 {
+        let st = words::load(w, r);
+        rules[r] = st;
+        r = r + 1;
+    }
+    rules
+}
+
+// The monitor that words hold.
+fn of_words(w: &[u64; 34]) -> Monitor
+    ensures { λ m. ⌜ numbersOf m ≡ heldBy (now (w .entry)) ⌝ }
+{
+    let rules = rules_of(w);
+    Monitor {
+        rules: rules,
+        taken: words::taken(w),
+        latest: words::latest(w),
+        verdict: words::verdict(w),
+        mask: words::mask(w),
+        dues: words::dues(w),
+    }
+}
+
+// One observation by value: what `observe` does in words.
 pub fn step<'a>(
     heads: &'a [u64; 16],
     fragments: &'a [u16; 256],
@@ -351,11 +418,11 @@ pub fn step<'a>(
     m: Monitor,
     o: Observation,
 ) -> Answered
-    ensures { λ r. ⌜ ObservesLent (now (heads .entry)) (now (fragments .entry)) (now (names .entry)) (now (ranges .entry)) (now (holders .entry)) (m .words) o (r .answer) (r .monitor .words) ⌝ }
+    ensures { λ r. ⌜ TurnsLent (now (heads .entry)) (now (fragments .entry)) (now (names .entry)) (now (ranges .entry)) (now (holders .entry)) m o (r .answer) (r .monitor) ⌝ }
 {
-    let mut w = m.words;
+    let mut w = in_words(m);
     let answer = observe(heads, fragments, names, ranges, holders, &mut w, o);
-    let next = Monitor { words: w };
+    let next = of_words(&w);
     Answered {
         monitor: next,
         answer: answer,
@@ -364,24 +431,31 @@ pub fn step<'a>(
 
 // A fresh monitor.
 pub fn start(fragments: &[u16; 256]) -> Monitor
-    ensures { λ m. ⌜ Freshes (now (fragments .entry)) (m .words) ⌝ }
+    ensures { λ m. ⌜ Starts (now (fragments .entry)) m ⌝ }
 {
     let w = fresh(fragments);
-    Monitor { words: w }
+    of_words(&w)
 }
 
 // The verdict that a monitor holds.
 pub fn verdict_of(m: Monitor) -> Answer
-    ensures { λ r. ⌜ Says r (m .words) ⌝ }
+    ensures { λ r. ⌜ SaysOf r (numbersOf m) ⌝ }
 {
-    let w = m.words;
-    verdict(&w)
+    if m.verdict == 2 {
+        let k = m.taken;
+        let mask = m.mask;
+        return Answer::Broken(k, mask);
+    }
+    if m.verdict == 1 {
+        let mask = m.mask;
+        return Answer::Open(mask);
+    }
+    Answer::Whole
 }
 
 // The number of observations that a monitor has taken.
 pub fn taken_by(m: Monitor) -> u32
-    ensures { λ r. ⌜ r ≡ heldBy (m .words) .taken ⌝ }
+    ensures { λ r. ⌜ r ≡ m .taken ⌝ }
 {
-    let w = m.words;
-    count(&w)
+    m.taken
 }

@@ -121,8 +121,7 @@ fn replay(taken: u32, sheet: &[u8], log: &[u8]) {
     let b = t.book;
     let fragments = b.fragments;
     let mut m = monitor::start(&fragments);
-    // word 32 has the number taken and, in its upper half, the latest time, 0 here
-    m.words[32] = taken as u64;
+    m.taken = taken;
     let heads = b.heads;
     let names = b.names;
     let ranges = b.ranges;

@@ -7,12 +7,13 @@ use Rattle.pattern.specs.Judge as J
 use Rattle.layout.specs.Layout.{Sheet, Bytes}
 use Rattle.layout.specs.Reading.{accepted, readSheet}
 use Rattle.book.specs.declared.Book.{Book}
-use Rattle.monitor.specs.Promise.{Lends, Freshes, Run, done, more, CodeAgreement}
+use Rattle.monitor.specs.Promise.{Lends, Run, done, more, CodeAgreement}
+use Rattle.monitor.specs.Value.{numbersOf, Turns, Starts}
 use Rattle.monitor.specs.declared.Monitor.{Monitor}
 use Rattle.monitor.specs.declared.Observation.{Observation}
 use Rattle.monitor.specs.declared.Answer.{Answer}
-use Rattle.monitor.proofs.Agreement.{agreement}
-use Rattle.session.specs.Session.{Opens, Session, none, call, SessionAgreement}
+use Rattle.monitor.proofs.Agreement.{value-agreement}
+use Rattle.session.specs.Session.{Opens, Session, SessionAgreement}
 use Rattle.session.specs.declared.Opened.{Opened}
 
 -- a book lends its own arrays
@@ -20,23 +21,23 @@ lends-own : (b : Book) → Lends (b .heads) (b .fragments) (b .names) (b .ranges
 lends-own b = record { heads′ = refl; fragments′ = refl; names′ = refl; ranges′ = refl; holders′ = refl }
 
 -- calls in place are a run of calls by value
-pub session-run : (b : Book) {m last : Monitor} {os : List Observation} {as′ : List Answer} → Session b m os as′ last → Run b (m .words) os as′ (last .words)
-session-run b none = done
-session-run b (call c rest) = more (c b (lends-own b)) (session-run b rest)
+pub session-run : (b : Book) {m last : Monitor} {os : List Observation} {as′ : List Answer} → Session b m os as′ last → Run (Turns b) m os as′ last
+session-run b done = done
+session-run b (more c rest) = more (c b (lends-own b)) (session-run b rest)
 
 -- for every accepted sheet's bytes, every monitor that `start` has put in place for the book that `open_sheet` made of them, and every list of observations: the calls in place answer what the judge answers
 pub session-agreement : (bytes : List ℕ) → Bytes bytes → (r : Opened) → Opens bytes r → (S : Sheet) → readSheet bytes ≡ accepted S
-    → (m : Monitor) → Freshes (r .book .fragments) (m .words) → (os : List Observation) (as′ : List Answer) (last : Monitor) → Session (r .book) m os as′ last → SessionAgreement S os as′ last
-session-agreement bytes are r opens S is m freshes os as′ last s = record {
+    → (m : Monitor) → Starts (r .book .fragments) m → (os : List Observation) (as′ : List Answer) (last : Monitor) → Session (r .book) m os as′ last → SessionAgreement S os as′ last
+session-agreement bytes are r opens S is m starts os as′ last s = record {
   agrees = along;
   counts = λ oracle right n e. e ∙ along .agrees oracle right .taken;
   says = λ oracle right a e. e ∙ ap J.verdict (along .agrees oracle right .verdict);
 }
   where
-    along : CodeAgreement S os as′ (last .words)
-    along = agreement bytes are (record { answer = r .answer; book = r .book }) (opens .translates) S is (m .words) freshes os as′ (last .words) (session-run (r .book) s)
+    along : CodeAgreement S os as′ (numbersOf last)
+    along = value-agreement bytes are (record { answer = r .answer; book = r .book }) (opens .translates) S is m starts os as′ last (session-run (r .book) s)
 
 -- the same from the monitor that `open_sheet` returned
 pub opened-agreement : (bytes : List ℕ) → Bytes bytes → (r : Opened) → Opens bytes r → (S : Sheet) → readSheet bytes ≡ accepted S
     → (os : List Observation) (as′ : List Answer) (last : Monitor) → Session (r .book) (r .monitor) os as′ last → SessionAgreement S os as′ last
-opened-agreement bytes are r opens S is = session-agreement bytes are r opens S is (r .monitor) (opens .freshes)
+opened-agreement bytes are r opens S is = session-agreement bytes are r opens S is (r .monitor) (opens .starts)

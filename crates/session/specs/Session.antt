@@ -1,7 +1,7 @@
 -- What a session promises, in the words of the monitor part's promises.
 -- Assumes nothing.
 use mathlib.Core.Path.{_≡_}
-use mathlib.Core.List.{List, [], _∷_, map}
+use mathlib.Core.List.{List, map}
 use Prim.Native.Nat.{ℕ}
 use lib.ListN.{length}
 use Rattle.pattern.specs.Judge.{Oracle, Right, nothing, judgeKeeps}
@@ -9,8 +9,8 @@ use Rattle.pattern.specs.Judge as J
 use Rattle.layout.specs.Layout.{Sheet}
 use Rattle.book.specs.Books.{Translates}
 use Rattle.book.specs.declared.Book.{Book}
-use Rattle.words.specs.Words.{heldBy}
-use Rattle.monitor.specs.Promise.{said, seen, Says, ObservesLent, Freshes, CodeAgreement}
+use Rattle.monitor.specs.Promise.{said, seen, SaysOf, Run, CodeAgreement}
+use Rattle.monitor.specs.Value.{numbersOf, TurnsLent, Starts}
 use Rattle.monitor.specs.declared.Monitor.{Monitor}
 use Rattle.monitor.specs.declared.Observation.{Observation}
 use Rattle.monitor.specs.declared.Answer.{Answer}
@@ -21,22 +21,20 @@ use Rattle.session.specs.declared.Opened.{Opened}
 -- opening from these bytes: the reader's answer and an accepted sheet's book, as translating promises; and a fresh monitor for that book
 pub record Opens (bytes : List ℕ) (r : Opened) : Type 0 where
   pub translates : Translates bytes (record { answer = r .answer; book = r .book })
-  pub freshes : Freshes (r .book .fragments) (r .monitor .words)
+  pub starts : Starts (r .book .fragments) (r .monitor)
 
 -- one observation in place: the monitor before the call, the observation, the monitor that the call leaves and its answer are such as the monitor part promises by value
 abbrev pub ObservesInPlace : List ℕ → List ℕ → List ℕ → List ℕ → List ℕ → Monitor → Observation → Monitor → Answer → Type 0
-ObservesInPlace heads fragments names ranges holders before o after answer = ObservesLent heads fragments names ranges holders (before .words) o answer (after .words)
+ObservesInPlace heads fragments names ranges holders before o after answer = TurnsLent heads fragments names ranges holders before o answer after
 
 -- ---- a session
 
 -- one call after the other, all lent the same book's arrays, each on the monitor that the last one left in place; `ObservesInPlace` is all that a call promises
-pub data Session (b : Book) : Monitor → List Observation → List Answer → Monitor → Type 0 where
-  none : {m : Monitor} → Session b m [] [] m
-  call : {m next last : Monitor} {o : Observation} {os : List Observation} {a : Answer} {as′ : List Answer}
-      → ObservesInPlace (b .heads) (b .fragments) (b .names) (b .ranges) (b .holders) m o next a → Session b next os as′ last → Session b m (o ∷ os) (a ∷ as′) last
+abbrev pub Session : Book → Monitor → List Observation → List Answer → Monitor → Type 0
+Session b = Run (λ m o a next. ObservesInPlace (b .heads) (b .fragments) (b .names) (b .ranges) (b .holders) m o next a)
 
 -- demand 3 for a session: its answers, its count and its verdict are the judge's; and so is what the calls `taken` and `verdict` then answer
 pub record SessionAgreement (S : Sheet) (os : List Observation) (as′ : List Answer) (last : Monitor) : Type 0 where
-  pub agrees : CodeAgreement S os as′ (last .words)
-  pub counts : (oracle : Oracle) → Right (S .rules) oracle → (n : ℕ) → n ≡ heldBy (last .words) .taken → n ≡ length (judgeKeeps oracle nothing (map seen os) .taken)
-  pub says : (oracle : Oracle) → Right (S .rules) oracle → (a : Answer) → Says a (last .words) → said a ≡ J.verdict (judgeKeeps oracle nothing (map seen os) .verdict)
+  pub agrees : CodeAgreement S os as′ (numbersOf last)
+  pub counts : (oracle : Oracle) → Right (S .rules) oracle → (n : ℕ) → n ≡ last .taken → n ≡ length (judgeKeeps oracle nothing (map seen os) .taken)
+  pub says : (oracle : Oracle) → Right (S .rules) oracle → (a : Answer) → SaysOf a (numbersOf last) → said a ≡ J.verdict (judgeKeeps oracle nothing (map seen os) .verdict)

@@ -1,7 +1,7 @@
 // A host's session (document 01, "Observing"): one monitor, lent to the guard and changed in place. Each call takes the state out, calls the monitor part by value and puts what it returns back; it rests on that part's promises alone.
 ghost use mathlib.Core.Path.{_≡_};
-ghost use Rattle.words.specs.Words.{heldBy};
-ghost use Rattle.monitor.specs.Promise.{Freshes, Says};
+ghost use Rattle.monitor.specs.Promise.{SaysOf};
+ghost use Rattle.monitor.specs.Value.{numbersOf, Starts};
 ghost use Rattle.session.specs.Session.{Opens, ObservesInPlace};
 use monitor::Answer;
 use monitor::Monitor;
@@ -31,7 +31,7 @@ pub fn open_sheet(bytes: &[u8]) -> Opened
 
 // Puts a fresh monitor for the book whose fragments are lent in the place of whatever stands there.
 pub fn start(m: &mut Monitor, fragments: &[u16; 256])
-    ensures { λ _. ⌜ Freshes (now (fragments .entry)) (now (m .exit) .words) ⌝ }
+    ensures { λ _. ⌜ Starts (now (fragments .entry)) (now (m .exit)) ⌝ }
 {
     *m = monitor::start(fragments);
 }
@@ -57,7 +57,7 @@ pub fn observe<'a>(
 
 // The verdict that the session's monitor holds. It is read, and not changed.
 pub fn verdict(m: &Monitor) -> Answer
-    ensures { λ r. ⌜ Says r (now (m .entry) .words) ⌝ }
+    ensures { λ r. ⌜ SaysOf r (numbersOf (now (m .entry))) ⌝ }
 {
     let s = *m;
     monitor::verdict_of(s)
@@ -65,7 +65,7 @@ pub fn verdict(m: &Monitor) -> Answer
 
 // The number of observations that the session's monitor has taken. It is read, and not changed.
 pub fn taken(m: &Monitor) -> u32
-    ensures { λ r. ⌜ r ≡ heldBy (now (m .entry) .words) .taken ⌝ }
+    ensures { λ r. ⌜ r ≡ now (m .entry) .taken ⌝ }
 {
     let s = *m;
     monitor::taken_by(s)

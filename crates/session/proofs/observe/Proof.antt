@@ -41,7 +41,7 @@ use denote.Triple.Clauses.{ensured, lasts}
 use denote.Triple.Table.{entered, cited}
 use denote.Triple.Walked.{says, Stays, stay-ref, stay-none, stay-none-ref, walkOf, AllGo, goes-none, goes-none-ref, goes-ref, Walks, ends-at, walked, walk-meets}
 use denote.Exit.{yes}
-use Rattle.monitor.specs.Promise.{ObservesLent}
+use Rattle.monitor.specs.Value.{TurnsLent}
 use Rattle.monitor.specs.declared.Monitor.{Monitor}
 use Rattle.monitor.specs.declared.Answer.{Answer}
 use Rattle.monitor.specs.declared.Observation.{Observation}
@@ -143,7 +143,7 @@ module _ {M : Type 1} (𝓤 : URA M) (H : Heap 𝓤) (A : Atoms 𝓤) (W : Given
   to-step = (((κ₁, tt), (q₁, tt), tt, arg, (ptr-vals y₁, (ptr-vals y₂, (ptr-vals y₃, (ptr-vals y₄, (ptr-vals y₅, (vals h, (vals-o s, tt)))))))), tt)
 
   abbrev Promised : Answered → Type 0
-  Promised r = ObservesLent (y₁ .now) (y₂ .now) (y₃ .now) (y₄ .now) (y₅ .now) (h .words) s (r .answer) (r .monitor .words)
+  Promised r = TurnsLent (y₁ .now) (y₂ .now) (y₃ .now) (y₄ .now) (y₅ .now) h s (r .answer) (r .monitor)
 
   goes : Is T.the-row h (vals h) → ent 𝓤 (⋆ 𝓤 H A ((‵ (flft κ₁ q₁) ⊛ ‵ ftrue) ∷ ‵ Lent ∷ [])) (Step 𝓤 H A at-mem run .pre to-step)
   goes is =

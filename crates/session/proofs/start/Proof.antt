@@ -39,7 +39,7 @@ use denote.Triple.Clauses.{ensured, lasts}
 use denote.Triple.Table.{entered, cited}
 use denote.Triple.Walked.{says, Stays, stay-ref, stay-none-ref, walkOf, AllGo, goes-none-ref, goes-ref, Walks, ends-at, walked, walk-meets}
 use denote.Exit.{yes}
-use Rattle.monitor.specs.Promise.{Freshes}
+use Rattle.monitor.specs.Value.{Starts}
 use Rattle.monitor.specs.declared.Monitor.{Monitor}
 use Rattle.monitor.proofs.Monitor as T
 use Rattle.monitor.proofs.Monitor.Laws as T′
@@ -97,7 +97,7 @@ module _ {M : Type 1} (𝓤 : URA M) (H : Heap 𝓤) (A : Atoms 𝓤) (W : Given
   to-fresh = (((κ₁, tt), (q₁, tt), tt, x .1, at .1), tt)
 
   abbrev Promised : Monitor → Type 0
-  Promised r = Freshes (y .now) (r .words)
+  Promised r = Starts (y .now) r
 
   goes : ent 𝓤 (⋆ 𝓤 H A ((‵ (flft κ₁ q₁) ⊛ ‵ ftrue) ∷ ‵ Lent ∷ [])) (Fresh 𝓤 H A at-mem run .pre to-fresh)
   goes = qed W ((‵ (flft κ₁ q₁) ⊛ ‵ ftrue) ∷ ‵ Lent ∷ []) ∵ join ! $ frame ! $ done !

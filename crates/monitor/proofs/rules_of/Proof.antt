@@ -1,0 +1,59 @@
+-- `monitor::rules_of` meets its contract. After r turns the first r states are those that the words hold. The measure is what is left of the 16. Assumes nothing.
+use mathlib.Core.Path.{_≡_, refl, _∙_}
+use mathlib.Core.List.{List}
+use Prim.Native.Nat.{_%_, _≤_, _<_, _-_}
+use native.Mathlib.Omega.{arith}
+use denote.Ref.{now}
+use lib.ListN.{length, replicate}
+use Rattle.step.specs.declared.RuleState.{RuleState}
+use Rattle.step.specs.Upto.{mapN, mapN-more}
+use Rattle.words.specs.Words.{noState, ruleFrom, rulesIn}
+use Rattle.words.proofs.Laws.{rule-at}
+use borrow.Author.Needs.{needs}
+use Rattle.monitor.proofs.rules_of.Statement.{statement}
+use Rattle.monitor.proofs.rules_of.Tie as tie
+
+abbrev blank : List RuleState
+blank = replicate 16 noState
+
+abbrev Inv-loop : tie.InvT-loop
+Inv-loop w rules₀ r₀ rules r = (r ≤ 16) × (rules ≡ mapN (ruleFrom w) 0 r blank)
+
+abbrev μ-loop : tie.MeasureT-loop
+μ-loop w rules₀ r₀ rules r = 16 - r
+
+loop-holds : tie.Need-loop-holds Inv-loop μ-loop
+loop-holds c = (omega arith, refl)
+
+load-requires : tie.Need-load-requires Inv-loop μ-loop
+load-requires c κs = search needs
+
+mul-rules : tie.Need-mul-rules Inv-loop μ-loop
+mul-rules c = search needs
+
+array-set-from-rules : tie.Need-array-set-from-rules Inv-loop μ-loop
+array-set-from-rules c = search needs
+
+add-r : tie.Need-add-r Inv-loop μ-loop
+add-r c = search needs
+
+loop-less : tie.Need-loop-less Inv-loop μ-loop
+loop-less c = search needs
+
+loop-again : tie.Need-loop-again Inv-loop μ-loop
+loop-again c =
+    let turn = c .before .before .loop in
+    let w = now (c .before .before .before .args .w) in
+    let h : turn .r < 16 = c .before .loop-test .taken in
+    let e : turn .r % 16 ≡ turn .r = omega arith in
+    (omega arith, rw (turn .inv .1, c .load .ensures, e, rule-at w (turn .r) h) (mapN-more (ruleFrom w) (turn .r) blank noState h))
+
+returns : tie.Need-returns Inv-loop μ-loop
+unfolding rulesIn
+returns c =
+    let turn = c .before .loop in
+    let e : turn .r ≡ 16 = omega (arith, c .loop-test .left, turn .inv .0) in
+    turn .inv .1 ∙ rw e
+
+pub rules-of-spec : {M : Type 1} → statement M
+rules-of-spec = tie.close (tie.spec Inv-loop μ-loop loop-holds load-requires mul-rules array-set-from-rules add-r loop-less loop-again returns)
