@@ -1,5 +1,9 @@
-// A caller of the session in Rattle (document 01: "The host's session keeps one monitor, lent to the guard and changed in place"): it takes a monitor, keeps it in a local, lends the local for one call of the session's, and gives back what the call left there.
+// Callers of the session in Rattle (document 01: "The host's session keeps one monitor, lent to the guard and changed in place"): each takes a monitor, keeps it in a local, and lends the local for one of the session's calls, by `&mut` or by `&`. They rest on the session's promises alone.
+ghost use mathlib.Core.Path.{_≡_};
+ghost use Rattle.words.specs.Words.{heldBy};
+ghost use Rattle.monitor.specs.Promise.{Says};
 ghost use Rattle.session.specs.Session.{ObservesInPlace};
+use monitor::Answer;
 use monitor::Answered;
 use monitor::Monitor;
 use monitor::Observation;
@@ -22,4 +26,20 @@ pub fn observed<'a>(
         monitor: s,
         answer: answer,
     }
+}
+
+// The verdict that the monitor which is handed over holds: a local is lent to be read.
+pub fn verdict_of(m: Monitor) -> Answer
+    ensures { λ r. ⌜ Says r (m .words) ⌝ }
+{
+    let s = m;
+    session::verdict(&s)
+}
+
+// The number of observations that the monitor which is handed over has taken: a local is lent to be read.
+pub fn taken_by(m: Monitor) -> u32
+    ensures { λ r. ⌜ r ≡ heldBy (m .words) .taken ⌝ }
+{
+    let s = m;
+    session::taken(&s)
 }

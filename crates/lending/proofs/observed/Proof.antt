@@ -16,7 +16,7 @@ use prog.Wp.{Heap, Calls, Loops, WpFn, Tables}
 use ghost.Atoms.{Atoms, sem}
 use contract.Monad.{Fun, fact}
 use contract.Running.{givenOf, tables, tablesOf}
-use types.Kit.{Given, ‵, raw, ⋆, some, later, _⊛_, _$_, _∵_, !, qed, by, move, drop, use1, use2, use3, split, join, pick, rewrite, fsplit, fjoin, fpick, fpack, suffices, frame, await, done}
+use types.Kit.{Given, ‵, raw, ⋆, some, later, _⊛_, _$_, _∵_, !, qed, by, move, drop, use1, use2, use3, split, join, pick, rewrite, fsplit, fjoin, suffices, frame, await, done}
 use types.Run.{look, init, forget, stop, from, load, of-opd, addr, and-then, no-more, assigns, land, returns, enter, alloc1, alloc0, params1, pass1, pass0, free1, free0}
 use types.Part.{agg}
 use types.Tokens.{lft-new, lft-end}
@@ -24,14 +24,13 @@ use types.SemTy.{Body}
 use sound.WpLaws.{FmC, fmOf, WpFn-mono}
 use denote.RattleType.{RattleType, owns}
 use denote.Laws.{Is, shows}
-use denote.Memory.{cellAt, partAt, mem, partOf}
+use denote.Memory.{partAt, mem}
 use denote.Builtin.{u16, u64, ArrayOf}
 use denote.Array.{Array}
 use denote.Ref.{RefT, MutRef, ShrRef, ptr-vals, shr-tells, shr-copy}
 use denote.Lend.{lends-ref, ref-back}
 use denote.Signature.{Slot, plain}
 use denote.Steps.{only, owned, peeks, heard}
-use denote.Struct.Steps.{spelt}
 use denote.Struct.Struct.{twices}
 use denote.Struct.Laws as LL
 use denote.Enum.Laws as EL
@@ -60,6 +59,7 @@ use Rattle.session.proofs.observe as observe
 use Rattle.session.proofs.observe.Symbol as observe-def
 use Rattle.session.proofs.observe.Symbol.{name as #session·observe}
 use Rattle.session.proofs.observe.Met as observe-thm
+use Rattle.lending.proofs.Slot.{val, vals, slot-in, slot-out}
 use Rattle.lending.proofs.observed.Key.{name as #lending·observed}
 use Rattle.lending.proofs.observed as f
 use Rattle.lending.proofs.observed.Statement as stated
@@ -87,13 +87,7 @@ HalvesS n = ArrayOf (plain (λ _. u16)) (λ _. tt) n
 abbrev stayed : Stays (f.ended .signature .params) (f.ended .kept)
 stayed = (stay-none (λ _. T.the-row) yes, (stay-none-ref (0 ∷ []) tt (WordsS 16) yes, (stay-none-ref (0 ∷ []) tt (HalvesS 256) yes, (stay-none-ref (0 ∷ []) tt (WordsS 256) yes, (stay-none-ref (0 ∷ []) tt (WordsS 2048) yes, (stay-none-ref (0 ∷ []) tt (HalvesS 64) yes, (stay-none (λ _. O.the-row) yes, tt)))))))
 
--- the machine values of a monitor, of an answer, of an observation and of the pair
-abbrev val : Monitor → Val
-val = LL.val T.the-type T′.the-laws
-
-abbrev vals : Monitor → List Val
-vals = LL.vals T.the-type T′.the-laws
-
+-- the machine values of an answer, of an observation and of the pair
 abbrev val-n : Answer → Val
 val-n = EL.val N.the-type N′.the-laws
 
@@ -113,21 +107,6 @@ pair-is r mon ans = LL.owes S.the-type S′.the-laws r (mon, (ans, tt))
 -- the contract that the proof cites
 abbrev Observe : {M : Type 1} (𝓤 : URA M) (H : Heap 𝓤) (A : Atoms 𝓤) (mem : Memory → SProp 𝓤) (run : Routine → Fun 𝓤) → Contract 𝓤
 Observe 𝓤 H A mem run = tripleOf 𝓤 H A observe.signature (observe.spec 𝓤 H A mem run)
-
--- a slot that holds a monitor's machine value is a monitor in memory, and back
-module _ {M : Type 1} (𝓤 : URA M) (H : Heap 𝓤) (A : Atoms 𝓤) (W : Given 𝓤 H A) (h : Monitor) (l : ℕ) where
-  slot-in : Is T.the-row h (vals h) → ent 𝓤 (sem 𝓤 H A (fat fullShare T′.mir l 0 (val h))) (sem 𝓤 H A (partAt T.the-row fullShare h l 0))
-  unfolding partOf
-  slot-in is =
-      qed W (‵ (fat fullShare T′.mir l 0 (val h)) ∷ []) ∵ use1 W (‵ (cellAt fullShare (T.the-row .mir) (vals h) l 0)) (W .laws .at-raw fullShare T′.mir l 0 (val h)) $
-      owned ! T.the-row (Is T.the-row) (LL.makes T.the-type T′.the-plain 𝓤 H A) h (vals h) is $ move ! (1 ∷ 0 ∷ []) $ fjoin ! $
-      fpack ! (List Val) (λ us. fsep (cellAt fullShare (T.the-row .mir) us l 0) (T.the-row .own h us)) (vals h) $ done !
-
-  slot-out : ent 𝓤 (sem 𝓤 H A (partAt T.the-row fullShare h l 0)) (sep 𝓤 (sem 𝓤 H A (fat fullShare T′.mir l 0 (val h))) (sem 𝓤 H A (T.the-row .own h (vals h))))
-  unfolding partOf
-  slot-out =
-      qed W (‵ (partAt T.the-row fullShare h l 0) ∷ []) ∵ fpick ! (λ vs. fsplit ! $ spelt ! T.the-row (Is T.the-row) (shows 𝓤 H A T.the-row) vals (LL.tells T.the-type T′.the-laws) fullShare h vs l 0 $
-      use1 W (‵ (fat fullShare T′.mir l 0 (val h))) (W .laws .raw-at fullShare T′.mir l 0 (val h)) $ frame ! $ done !)
 
 module _ {M : Type 1} (𝓤 : URA M) (H : Heap 𝓤) (A : Atoms 𝓤) (W : Given 𝓤 H A) (at-mem : Memory → SProp 𝓤) (run : Routine → Fun 𝓤) (κ : Lft) (q : Share) (h : Monitor) (y₁ y₂ y₃ y₄ y₅ : Table) (s : Observation) (h-is : Is T.the-row h (vals h)) (s-is : Is O.the-row s (vals-o s)) where
   abbrev x : Arg
