@@ -1,0 +1,45 @@
+// Callers of the session in Rattle (document 01: "The host's session keeps one monitor, lent to the guard and changed in place"): each takes a monitor, keeps it in a local, and lends the local for one of the session's calls, by `&mut` or by `&`. They rest on the session's promises alone.
+ghost use mathlib.Core.Path.{_≡_};
+ghost use Rattle.words.specs.Words.{heldBy};
+ghost use Rattle.monitor.specs.Promise.{Says};
+ghost use Rattle.session.specs.Session.{ObservesInPlace};
+use monitor::Answer;
+use monitor::Answered;
+use monitor::Monitor;
+use monitor::Observation;
+
+// One observation of the monitor that is handed over, under the book whose arrays are lent: the answer, and the monitor that the call left in the local that was lent to it.
+pub fn observed<'a>(
+    m: Monitor,
+    heads: &'a [u64; 16],
+    fragments: &'a [u16; 256],
+    names: &'a [u64; 256],
+    ranges: &'a [u64; 2048],
+    holders: &'a [u16; 64],
+    o: Observation,
+) -> Answered
+    ensures { λ r. ⌜ ObservesInPlace (now (heads .entry)) (now (fragments .entry)) (now (names .entry)) (now (ranges .entry)) (now (holders .entry)) m o (r .monitor) (r .answer) ⌝ }
+{
+    let mut s = m;
+    let answer = session::observe(&mut s, heads, fragments, names, ranges, holders, o);
+    Answered {
+        monitor: s,
+        answer: answer,
+    }
+}
+
+// The verdict that the monitor which is handed over holds: a local is lent to be read.
+pub fn verdict_of(m: Monitor) -> Answer
+    ensures { λ r. ⌜ Says r (m .words) ⌝ }
+{
+    let s = m;
+    session::verdict(&s)
+}
+
+// The number of observations that the monitor which is handed over has taken: a local is lent to be read.
+pub fn taken_by(m: Monitor) -> u32
+    ensures { λ r. ⌜ r ≡ heldBy (m .words) .taken ⌝ }
+{
+    let s = m;
+    session::taken(&s)
+}
