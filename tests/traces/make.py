@@ -2,7 +2,7 @@
 """Traces, observation by observation, and what is due for each: the answers are those of the second guard in reference/, which keeps the list of observations
 taken and judges every rule anew at each of them.
 
-  python3 tests/traces/make.py          write crates/replay/stdin (the cases) and crates/replay/stdout (a line for each)
+  python3 tests/traces/make.py          write crates/replay/stdin (the cases) and crates/replay/stdout (two equal lines for each: by value, and through the session)
   python3 tests/traces/make.py --check  say whether those two files are what would be written, and print how often each answer is due
 
 A line gives the answer to each observation, then after a bar the verdict and the number of observations taken: w whole, o with the mask of the open rules, b with
@@ -89,7 +89,7 @@ def made():
     for book, log, before in cases():
         words, said = line(book, log, before)
         data += struct.pack("<IHH", before, len(book), len(log)) + book + b"".join(struct.pack("<BI", name, time) for time, name in log)
-        lines.append(said)
+        lines += [said, said]
         met.update(word if word[0] == "r" else word[0] for word in words)
     assert len(data) <= ROOM, len(data)
     assert all(met[word] >= 20 for word in ("w", "o", "b", "r11", "r12", "r13")), met

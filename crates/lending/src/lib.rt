@@ -1,7 +1,7 @@
 // Callers of the session in Rattle (document 01: "The host's session keeps one monitor, lent to the guard and changed in place"): each takes a monitor, keeps it in a local, and lends the local for one of the session's calls, by `&mut` or by `&`. They rest on the session's promises alone.
 ghost use mathlib.Core.Path.{_≡_};
-ghost use Rattle.words.specs.Words.{heldBy};
-ghost use Rattle.monitor.specs.Promise.{Says};
+ghost use Rattle.monitor.specs.Promise.{SaysOf};
+ghost use Rattle.monitor.specs.Value.{numbersOf};
 ghost use Rattle.session.specs.Session.{ObservesInPlace};
 use monitor::Answer;
 use monitor::Answered;
@@ -30,7 +30,7 @@ pub fn observed<'a>(
 
 // The verdict that the monitor which is handed over holds: a local is lent to be read.
 pub fn verdict_of(m: Monitor) -> Answer
-    ensures { λ r. ⌜ Says r (m .words) ⌝ }
+    ensures { λ r. ⌜ SaysOf r (numbersOf m) ⌝ }
 {
     let s = m;
     session::verdict(&s)
@@ -38,7 +38,7 @@ pub fn verdict_of(m: Monitor) -> Answer
 
 // The number of observations that the monitor which is handed over has taken: a local is lent to be read.
 pub fn taken_by(m: Monitor) -> u32
-    ensures { λ r. ⌜ r ≡ heldBy (m .words) .taken ⌝ }
+    ensures { λ r. ⌜ r ≡ m .taken ⌝ }
 {
     let s = m;
     session::taken(&s)

@@ -1,9 +1,10 @@
 // Replays observations through the exported calls and writes each answer: a sheet is translated, a monitor opened, and records are observed one after the other, each on what the
-// last one left. tests/traces/make.py made the cases and says what is due. A case in the input is the monitor's taken count to start from (u32), the sheet's length (u16), the number
+// last one left. Every case is replayed twice, by value and through the session, to which the monitor is lent; each writes a line. tests/traces/make.py made the cases and says what is due. A case in the input is the monitor's taken count to start from (u32), the sheet's length (u16), the number
 // of records (u16), all little-endian, the sheet's bytes, and for each record a name or 255 for a clock reading and a time (u32).
 ghost use Prim.Native.Nat.{_+_, _*_, _≤_, _<_};
 ghost use lib.ListN.{length};
 use monitor::Answer;
+use monitor::Answered;
 use monitor::Monitor;
 use monitor::Observation;
 
@@ -69,8 +70,39 @@ fn observation(s: &[u8], at: usize) -> Observation
     }
 }
 
-// One record, observed and told.
+fn turned<'a>(
+    lent: bool,
+    heads: &'a [u64; 16],
+    fragments: &'a [u16; 256],
+    names: &'a [u64; 256],
+    ranges: &'a [u64; 2048],
+    holders: &'a [u16; 64],
+    m: Monitor,
+    o: Observation,
+) -> Answered {
+    if lent {
+        return lending::observed(m, heads, fragments, names, ranges, holders, o);
+    }
+    monitor::step(heads, fragments, names, ranges, holders, m, o)
+}
+
+fn verdict_of(lent: bool, m: Monitor) -> Answer {
+    if lent {
+        return lending::verdict_of(m);
+    }
+    monitor::verdict_of(m)
+}
+
+fn taken_by(lent: bool, m: Monitor) -> u32 {
+    if lent {
+        return lending::taken_by(m);
+    }
+    monitor::taken_by(m)
+}
+
+// One record, observed by value or by lending the monitor to the session, and told.
 fn step<'a>(
+    lent: bool,
     heads: &'a [u64; 16],
     fragments: &'a [u16; 256],
     names: &'a [u64; 256],
@@ -79,7 +111,7 @@ fn step<'a>(
     m: Monitor,
     o: Observation,
 ) -> Monitor {
-    let r = monitor::step(heads, fragments, names, ranges, holders, m, o);
+    let r = turned(lent, heads, fragments, names, ranges, holders, m, o);
     let answer = r.answer;
     tell(answer);
     let next = r.monitor;
@@ -88,6 +120,7 @@ fn step<'a>(
 
 // The records of a part of the input.
 fn observe_all<'a>(
+    lent: bool,
     heads: &'a [u64; 16],
     fragments: &'a [u16; 256],
     names: &'a [u64; 256],
@@ -103,6 +136,7 @@ fn observe_all<'a>(
             return m;
         }
         m = step(
+            lent,
             heads,
             fragments,
             names,
@@ -116,7 +150,7 @@ fn observe_all<'a>(
     m
 }
 
-fn replay(taken: u32, sheet: &[u8], log: &[u8]) {
+fn replay(lent: bool, taken: u32, sheet: &[u8], log: &[u8]) {
     let t = book::translate(sheet);
     let b = t.book;
     let fragments = b.fragments;
@@ -126,18 +160,19 @@ fn replay(taken: u32, sheet: &[u8], log: &[u8]) {
     let names = b.names;
     let ranges = b.ranges;
     let holders = b.holders;
-    let last = observe_all(&heads, &fragments, &names, &ranges, &holders, m, log);
+    let last = observe_all(lent, &heads, &fragments, &names, &ranges, &holders, m, log);
     io::write_all(STDOUT, b" |");
-    tell(monitor::verdict_of(last));
+    tell(verdict_of(lent, last));
     io::write_all(STDOUT, b" ");
-    print(monitor::taken_by(last) as u64);
+    print(taken_by(lent, last) as u64);
     io::write_all(STDOUT, b"\n");
 }
 
 fn replay_part(s: &[u8], taken: u32, a: usize, e: usize, end: usize)
     requires { ⌜ (a ≤ e) × ((e ≤ end) × (end ≤ length (now s))) ⌝ }
 {
-    replay(taken, &s[a..e], &s[e..end]);
+    replay(false, taken, &s[a..e], &s[e..end]);
+    replay(true, taken, &s[a..e], &s[e..end]);
 }
 
 fn replay_all(s: &[u8]) {
