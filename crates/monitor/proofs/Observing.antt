@@ -32,12 +32,12 @@ use Rattle.step.specs.Decode.{decode}
 use Rattle.step.proofs.Status.{running}
 use Rattle.step.proofs.Links.{Rules}
 use Rattle.words.specs.Words.{noState, Held, heldBy, rulesIn}
-use Rattle.monitor.specs.Pass.{Pass, passOf, Passes}
+use Rattle.rules.specs.Pass.{Pass, passOf, Passes}
 use Rattle.monitor.specs.Observe.{Observed, nameOf, timeOf, concernedBy, judgedOf, refusedOf, takenOf, lookedOf, observeOf}
 use Rattle.monitor.specs.Promise.{said, seen, verdictIn, modelAt, Represents, Tracks, Follows, Judges, Leaves, Observes, ObservesLent}
 use Rattle.monitor.specs.declared.Observation.{Observation}
 use Rattle.monitor.specs.declared.Observation.the-variants.{Event, Clock}
-use Rattle.monitor.specs.declared.Masks.{Masks}
+use Rattle.rules.specs.declared.Masks.{Masks}
 use Rattle.monitor.specs.declared.Answer.{Answer}
 use Rattle.monitor.specs.declared.Answer.the-variants.{Whole, Open, Broken, Refused}
 use Rattle.monitor.proofs.Holding.{holds-rule}

@@ -14,7 +14,7 @@ use Rattle.monitor.specs.declared.Answer.{Answer}
 use Rattle.monitor.specs.declared.Answer.the-variants.{Whole, Open, Broken, Refused}
 use Rattle.step.specs.Upto.{mapN}
 use Rattle.step.specs.Steps.{Tables, freshStates}
-use Rattle.monitor.specs.Pass.{Pass, passOf}
+use Rattle.rules.specs.Pass.{Pass, passOf}
 
 -- a monitor after an observation, and the answer
 pub record Observed : Type 0 where

@@ -1,15 +1,15 @@
--- `monitor::rule` meets its contract: the test of the mask is the definition's, and a rule's number is its own remainder by 16. Assumes nothing.
+-- `rules::rule` meets its contract: the test of the mask is the definition's, and a rule's number is its own remainder by 16. Assumes nothing.
 use mathlib.Core.Path.{_≡_, refl, sym, _∙_}
 use Prim.Native.Nat.{_%_}
 use native.Mathlib.Omega.{arith}
 use lib.ListN.{getD}
 use Rattle.step.specs.declared.RuleState.{RuleState}
 use Rattle.words.specs.Words.{noState, rulesIn}
-use Rattle.monitor.specs.Pass.{ruleOf}
-use Rattle.monitor.proofs.Passing.{steps-stored, steps-kept}
+use Rattle.rules.specs.Pass.{ruleOf}
+use Rattle.rules.proofs.Passing.{steps-stored, steps-kept}
 use borrow.Author.Needs.{needs}
-use Rattle.monitor.proofs.rule.Statement.{statement}
-use Rattle.monitor.proofs.rule.Tie as tie
+use Rattle.rules.proofs.rule.Statement.{statement}
+use Rattle.rules.proofs.rule.Tie as tie
 
 mul-plan-of : tie.Need-mul-plan-of
 mul-plan-of c = search needs

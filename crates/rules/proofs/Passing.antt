@@ -21,7 +21,7 @@ use Rattle.step.specs.Upto.{mapN}
 use Rattle.step.specs.Steps.{Tables}
 use Rattle.words.specs.Words.{noState, rulesIn, Stores}
 use Rattle.words.proofs.Laws.{sixteen}
-use Rattle.monitor.specs.Pass.{Pass, Steps, ruleOf, isBroken, isOpen, isDue, touched, stepOf, standingAt, stateAt, brokenAt, openAt, dueAt, passOf}
+use Rattle.rules.specs.Pass.{Pass, Steps, ruleOf, isBroken, isOpen, isDue, touched, stepOf, standingAt, stateAt, brokenAt, openAt, dueAt, passOf}
 use Rattle.words.proofs.Places.{mapN-alike, mapN-same, set-mapN, getD-mapN}
 
 -- ---- tests

@@ -10,7 +10,7 @@ use Rattle.names.specs.Names.{member}
 use Rattle.step.specs.declared.RuleState.{RuleState}
 use Rattle.step.specs.declared.Stepped.{Stepped}
 use Rattle.words.specs.Words.{noState, rulesIn}
-use Rattle.monitor.specs.declared.Masks.{Masks}
+use Rattle.rules.specs.declared.Masks.{Masks}
 use Rattle.masks.specs.Masks.{maskN}
 use Rattle.step.specs.Upto.{mapN}
 use Rattle.step.specs.Steps.{Tables, planOf, actOf, dueOf}

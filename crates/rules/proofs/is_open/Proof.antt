@@ -1,7 +1,7 @@
--- `monitor::is_open` meets its contract, by its test. Assumes nothing.
+-- `rules::is_open` meets its contract, by its test. Assumes nothing.
 use borrow.Author.Tests.{eq-eqb, ne-eqb}
-use Rattle.monitor.proofs.is_open.Statement.{statement}
-use Rattle.monitor.proofs.is_open.Tie as tie
+use Rattle.rules.proofs.is_open.Statement.{statement}
+use Rattle.rules.proofs.is_open.Tie as tie
 
 returns : tie.Need-returns
 returns c = simp (eq-eqb (c .before .args .standing) 1 (c .if1 .taken))

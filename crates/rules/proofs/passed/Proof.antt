@@ -1,4 +1,4 @@
--- `monitor::passed` meets its contract. The loop's invariant is `Passing`: the rules seen have their new states, and the masks speak of those. Each turn takes the lowest rule out of `todo`, which so
+-- `rules::passed` meets its contract. The loop's invariant is `Passing`: the rules seen have their new states, and the masks speak of those. Each turn takes the lowest rule out of `todo`, which so
 -- becomes a smaller number: the measure. When it is 0, all that are looked at have been seen. Assumes nothing.
 use mathlib.Core.Path.{_≡_, refl}
 use mathlib.Core.List.{List}
@@ -9,10 +9,10 @@ use lib.ListN.{length}
 use Rattle.step.specs.Steps.{Tables}
 use Rattle.words.specs.Words.{rulesIn}
 use Rattle.words.proofs.Laws.{sixteen}
-use Rattle.monitor.proofs.Passing.{Passing, passing-start, passing-next, passing-end}
+use Rattle.rules.proofs.Passing.{Passing, passing-start, passing-next, passing-end}
 use borrow.Author.Needs.{needs}
-use Rattle.monitor.proofs.passed.Statement.{statement}
-use Rattle.monitor.proofs.passed.Tie as tie
+use Rattle.rules.proofs.passed.Statement.{statement}
+use Rattle.rules.proofs.passed.Tie as tie
 
 abbrev tables : (heads fragments names ranges : List ℕ) → Tables
 tables heads fragments names ranges = record { heads = heads; fragments = fragments; names = names; ranges = ranges }

@@ -1,7 +1,7 @@
--- `monitor::looked` meets its contract: a mask that is 0 is the mask that it passes on. Assumes nothing.
+-- `rules::looked` meets its contract: a mask that is 0 is the mask that it passes on. Assumes nothing.
 use borrow.Author.Needs.{needs}
-use Rattle.monitor.proofs.looked.Statement.{statement}
-use Rattle.monitor.proofs.looked.Tie as tie
+use Rattle.rules.proofs.looked.Statement.{statement}
+use Rattle.rules.proofs.looked.Tie as tie
 
 passed-requires : tie.Need-passed-requires
 passed-requires c κs = search needs
