@@ -1,2 +1,1 @@
-pub mod Observe
 pub mod Promise

@@ -9,8 +9,8 @@ use Rattle.layout.specs.Reading.{accepted, readSheet}
 use Rattle.book.specs.declared.Book.{Book}
 use Rattle.monitor.specs.Promise.{Lends, Freshes, Run, done, more, CodeAgreement}
 use Rattle.monitor.specs.declared.Monitor.{Monitor}
-use Rattle.monitor.specs.declared.Observation.{Observation}
-use Rattle.monitor.specs.declared.Answer.{Answer}
+use Rattle.observing.specs.declared.Observation.{Observation}
+use Rattle.observing.specs.declared.Answer.{Answer}
 use Rattle.monitor.proofs.Agreement.{agreement}
 use Rattle.session.specs.Session.{Opens, Session, none, call, SessionAgreement}
 use Rattle.session.specs.declared.Opened.{Opened}

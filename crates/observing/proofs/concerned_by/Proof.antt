@@ -1,8 +1,8 @@
--- `monitor::concerned_by` meets its contract: an event's name is below 64, so the table has it. Assumes nothing.
+-- `observing::concerned_by` meets its contract: an event's name is below 64, so the table has it. Assumes nothing.
 use mathlib.Core.Path.{refl}
 use borrow.Author.Needs.{needs}
-use Rattle.monitor.proofs.concerned_by.Statement.{statement}
-use Rattle.monitor.proofs.concerned_by.Tie as tie
+use Rattle.observing.proofs.concerned_by.Statement.{statement}
+use Rattle.observing.proofs.concerned_by.Tie as tie
 
 enum-known-o : tie.Need-enum-known-o
 enum-known-o c = search needs

@@ -1,11 +1,11 @@
--- `monitor::observed_by` meets its contract: a stopped book answers as before; a name of 64 or more is refused; and any other observation is looked at. Assumes nothing.
+-- `observing::observed_by` meets its contract: a stopped book answers as before; a name of 64 or more is refused; and any other observation is looked at. Assumes nothing.
 use mathlib.Core.Path.{_∙_}
 use native.Mathlib.Omega.{arith}
 use denote.Ref.{now}
-use Rattle.monitor.proofs.Observing.{leaves-stopped, leaves-unnamed, leaves-named}
+use Rattle.observing.proofs.Leaving.{leaves-stopped, leaves-unnamed, leaves-named}
 use borrow.Author.Needs.{needs}
-use Rattle.monitor.proofs.observed_by.Statement.{statement}
-use Rattle.monitor.proofs.observed_by.Tie as tie
+use Rattle.observing.proofs.observed_by.Statement.{statement}
+use Rattle.observing.proofs.observed_by.Tie as tie
 use Rattle.words.proofs.taken.Reads as taken-reads′
 
 verdict-requires : tie.Need-verdict-requires

@@ -1,4 +1,4 @@
--- `monitor::unstarted` meets its contract. After r turns the first r rules stand before their first fragment, and the last two words are 0. The measure is what is left of the 16. Assumes nothing.
+-- `opening::unstarted` meets its contract. After r turns the first r rules stand before their first fragment, and the last two words are 0. The measure is what is left of the 16. Assumes nothing.
 use mathlib.Core.Path.{_≡_, refl, _∙_}
 use mathlib.Core.List.{List}
 use Prim.Native.Nat.{_%_, _≤_, _<_, _-_}
@@ -8,10 +8,10 @@ use lib.ListN.{length, getD, replicate}
 use Rattle.step.specs.declared.RuleState.{RuleState}
 use Rattle.step.specs.Upto.{mapN, mapN-more}
 use Rattle.words.specs.Words.{stateIn, noState, rulesIn}
-use Rattle.monitor.specs.Observe.{freshRule, freshOf}
+use Rattle.opening.specs.Fresh.{freshRule, freshOf}
 use borrow.Author.Needs.{needs}
-use Rattle.monitor.proofs.unstarted.Statement.{statement}
-use Rattle.monitor.proofs.unstarted.Tie as tie
+use Rattle.opening.proofs.unstarted.Statement.{statement}
+use Rattle.opening.proofs.unstarted.Tie as tie
 
 -- the rules before any of them is made
 abbrev blank : List RuleState

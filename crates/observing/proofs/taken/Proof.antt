@@ -1,10 +1,10 @@
--- `monitor::taken` meets its contract: its tests are the definition's, in the same order. Assumes nothing.
+-- `observing::taken` meets its contract: its tests are the definition's, in the same order. Assumes nothing.
 use native.Mathlib.Omega.{arith}
 use denote.Ref.{now}
-use Rattle.monitor.proofs.Observing.{leaves-early, leaves-full, leaves-taken}
+use Rattle.observing.proofs.Leaving.{leaves-early, leaves-full, leaves-taken}
 use borrow.Author.Needs.{needs}
-use Rattle.monitor.proofs.taken.Statement.{statement}
-use Rattle.monitor.proofs.taken.Tie as tie
+use Rattle.observing.proofs.taken.Statement.{statement}
+use Rattle.observing.proofs.taken.Tie as tie
 
 latest-requires : tie.Need-latest-requires
 latest-requires c κs = search needs

@@ -2,18 +2,15 @@
 -- Assumes nothing.
 use mathlib.Core.Bool.{cond}
 use mathlib.Core.List.{List}
-use Prim.Native.Nat.{ℕ, _+_, _*_}
+use Prim.Native.Nat.{ℕ, _+_}
 use lib.Dec.{leb, ltb, eqb}
-use lib.ListN.{getD, replicate}
-use Rattle.book.specs.Words.{countIn}
-use Rattle.step.specs.declared.RuleState.{RuleState}
-use Rattle.words.specs.Words.{noState, Held}
-use Rattle.monitor.specs.declared.Observation.{Observation}
-use Rattle.monitor.specs.declared.Observation.the-variants.{Event, Clock}
-use Rattle.monitor.specs.declared.Answer.{Answer}
-use Rattle.monitor.specs.declared.Answer.the-variants.{Whole, Open, Broken, Refused}
-use Rattle.step.specs.Upto.{mapN}
-use Rattle.step.specs.Steps.{Tables, freshStates}
+use lib.ListN.{getD}
+use Rattle.words.specs.Words.{Held}
+use Rattle.observing.specs.declared.Observation.{Observation}
+use Rattle.observing.specs.declared.Observation.the-variants.{Event, Clock}
+use Rattle.observing.specs.declared.Answer.{Answer}
+use Rattle.observing.specs.declared.Answer.the-variants.{Whole, Open, Broken, Refused}
+use Rattle.step.specs.Steps.{Tables}
 use Rattle.rules.specs.Pass.{Pass, passOf}
 
 -- a monitor after an observation, and the answer
@@ -59,10 +56,3 @@ lookedOf b holders m (Clock time) = takenOf b m 0 0 time
 
 unfoldable pub observeOf : Tables → List ℕ → Held → Observation → Observed
 observeOf b holders m o = cond (eqb (m .verdict) 2) (record { monitor = m; answer = Broken (m .taken) (m .mask) }) (lookedOf b holders m o)
-
--- a fresh rule stands before its first fragment
-abbrev pub freshRule : List ℕ → ℕ → RuleState → RuleState
-freshRule fragments r st = record { fragment = 0; states = freshStates (countIn (getD fragments (16 * r) 0)); count = 0; end = 0 }
-
-unfoldable pub freshOf : List ℕ → Held
-freshOf fragments = record { rules = mapN (freshRule fragments) 0 16 (replicate 16 noState); taken = 0; latest = 0; verdict = 0; mask = 0; dues = 0 }
