@@ -6,8 +6,8 @@ ghost use Rattle.words.specs.Words.{heldBy};
 ghost use Rattle.monitor.specs.Promise.{Freshes, said, seen};
 ghost use Rattle.runner.specs.Log.{observation};
 ghost use Rattle.live.specs.Live.{answerWord, refusedWord, OpensLent, Narrowed, SameTurn, NotesLent, verdictIs};
-use monitor::Answer;
-use monitor::Observation;
+use observing::Answer;
+use observing::Observation;
 
 // ---- an answer's number
 

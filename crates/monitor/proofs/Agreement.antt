@@ -42,11 +42,11 @@ use Rattle.step.proofs.Status.{running, isTimed}
 use Rattle.step.proofs.Links.{Stands}
 use Rattle.words.specs.Words.{noState, Held, heldBy, Holds}
 use Rattle.words.proofs.Places.{getD-mapN}
-use Rattle.monitor.specs.Observe.{freshRule, freshOf}
+use Rattle.opening.specs.Fresh.{freshRule, freshOf}
 use Rattle.monitor.specs.Promise.{said, seen, verdictIn, modelAt, Represents, Tracks, Follows, Observes, Freshes, Run, done, more, CodeAgreement}
 use Rattle.monitor.specs.Value.{numbersOf, Turns, Starts}
-use Rattle.monitor.specs.declared.Observation.{Observation}
-use Rattle.monitor.specs.declared.Answer.{Answer}
+use Rattle.observing.specs.declared.Observation.{Observation}
+use Rattle.observing.specs.declared.Answer.{Answer}
 use Rattle.monitor.specs.declared.Monitor.{Monitor}
 use Rattle.monitor.proofs.Holding.{rule-formed, holds-rule}
 

@@ -1,4 +1,3 @@
-pub mod Passing
 pub mod Holding
 pub mod Rulewise
 pub mod Taking

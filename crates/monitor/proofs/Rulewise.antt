@@ -22,7 +22,7 @@ use Rattle.step.specs.Steps.{Ranges, Tables, planOf, actOf, dueOf, pastOf, runs
 use Rattle.step.specs.Decode.{decode}
 use Rattle.step.proofs.Status.{running, time-alone, running-is}
 use Rattle.step.proofs.Links.{statusIn, Rules, Stands, acts, past-at}
-use Rattle.monitor.specs.Pass.{ruleOf, isBroken, isOpen, isDue}
+use Rattle.rules.specs.Pass.{ruleOf, isBroken, isOpen, isDue}
 
 -- ---- a standing is one of four
 

@@ -28,7 +28,7 @@ use Rattle.step.proofs.Status.{running}
 use Rattle.step.proofs.Links.{Rules, Stands}
 use Rattle.words.specs.Words.{noState}
 use Rattle.words.proofs.Places.{getD-mapN}
-use Rattle.monitor.specs.Pass.{Pass, touched, stateAt, brokenAt, openAt, dueAt, passOf}
+use Rattle.rules.specs.Pass.{Pass, touched, stateAt, brokenAt, openAt, dueAt, passOf}
 use Rattle.monitor.specs.Promise.{modelAt}
 use Rattle.monitor.proofs.Rulewise.{Ruled, ruled}
 

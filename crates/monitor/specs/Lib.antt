@@ -1,4 +1,2 @@
-pub mod Pass
-pub mod Observe
 pub mod Promise
 pub mod Value

@@ -21,19 +21,12 @@ use Rattle.step.specs.Decode.{decode}
 use Rattle.step.proofs.Status.{running}
 use Rattle.step.proofs.Links.{Stands}
 use Rattle.words.specs.Words.{noState, Held, heldBy}
-use Rattle.monitor.specs.Observe.{Observed}
-use Rattle.monitor.specs.declared.Observation.{Observation}
-use Rattle.monitor.specs.declared.Observation.the-variants.{Event, Clock}
-use Rattle.monitor.specs.declared.Answer.{Answer}
-use Rattle.monitor.specs.declared.Answer.the-variants.{Whole, Open, Broken, Refused}
+use Rattle.observing.specs.declared.Observation.{Observation}
+use Rattle.observing.specs.declared.Observation.the-variants.{Event, Clock}
+use Rattle.observing.specs.declared.Answer.{Answer}
+pub use Rattle.observing.specs.Leaving.{said}
 
--- ---- the judge's value for each case of an answer and an observation
-
-abbrev pub said : Answer → J.Answer
-said Whole = J.verdict allWhole
-said (Open m) = J.verdict (someOpen m)
-said (Broken k m) = J.verdict (brokenAt k m)
-said (Refused n) = J.refused n
+-- ---- the judge's value for each case of an observation; that of an answer is `said` of `observing/specs/Leaving`
 
 abbrev pub seen : Observation → J.Observation
 seen (Event name time) = J.event name time
@@ -86,18 +79,6 @@ pub record Follows (S : Sheet) (k : Kept) (b : Book) (m : List ℕ) : Type 0 whe
   pub tracks : Tracks S k b (heldBy m)
 
 -- ---- the promise
-
--- what one observation leaves in a monitor's words, which are 34, as their type says: the monitor of a pair, its answer being the other half; a refused observation leaves every word
-pub record Leaves (before : List ℕ) (o : Observed) (a : Answer) (after : List ℕ) : Type 0 where
-  pub long : length before ≡ 34 → length after ≡ 34
-  pub leaves : length before ≡ 34 → record { monitor = heldBy after; answer = a } ≡ o
-  pub unchanged : (n : ℕ) → said a ≡ J.refused n → after ≡ before
-
--- the same of a verdict, which is no refusal
-pub record Judges (before : List ℕ) (o : Observed) (a : Answer) (after : List ℕ) : Type 0 where
-  pub long : length before ≡ 34 → length after ≡ 34
-  pub leaves : length before ≡ 34 → record { monitor = heldBy after; answer = a } ≡ o
-  pub taken : (n : ℕ) → said a ≡ J.refused n → ⊥
 
 -- one observation: the judge's next answer, and the monitor follows what the judge then keeps; a refused observation leaves every word as it was. Of a book and a monitor that follow no
 -- judge's list nothing else is promised but that the call returns

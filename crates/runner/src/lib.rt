@@ -10,8 +10,8 @@ ghost use Rattle.monitor.specs.Promise.{seen, verdictIn};
 ghost use Rattle.layout.specs.Form.{number};
 ghost use Rattle.runner.specs.Log.{observation, recordFrom, ended, openMask, refusedAt, turnedAway};
 ghost use Rattle.runner.specs.Runs.{Runs, Plays, TurnsLent, endedIn};
-use monitor::Answer;
-use monitor::Observation;
+use observing::Answer;
+use observing::Observation;
 
 // ---- records
 

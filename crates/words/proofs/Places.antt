@@ -49,3 +49,8 @@ module _ {A : Type 0} where
       → ((j : ℕ) (x : A) → (j ≡ i → ⊥) → f j x ≡ g j x) → set (mapN f 0 n l) i (g i (getD l i d)) ≡ mapN g 0 n l
   set-mapN f g n i l d h m e =
       ap (λ (j : ℕ). set (mapN f 0 n l) i (g j (getD l i d))) (sym (zero-add i)) ∙ set-mapN-from f g 0 n i l d h m (λ j y q. e j y (λ p. q (omega arith)))
+
+pub getD-any : {A : Type 0} (l : List A) (i : ℕ) (d e : A) → i < length l → getD l i d ≡ getD l i e
+getD-any [] i d e h = absurd (omega arith)
+getD-any (x ∷ l) zero d e h = refl
+getD-any (x ∷ l) (suc i) d e h = getD-any l i d e (omega arith)

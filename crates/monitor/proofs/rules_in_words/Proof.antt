@@ -8,8 +8,7 @@ use lib.Seq.{ext-getD}
 use Rattle.step.specs.declared.RuleState.{RuleState}
 use Rattle.step.specs.Upto.{mapN, mapN-more, length-mapN}
 use Rattle.words.specs.Words.{stateIn, noState, rulesIn}
-use Rattle.words.proofs.Places.{getD-mapN}
-use Rattle.monitor.proofs.Passing.{getD-any}
+use Rattle.words.proofs.Places.{getD-any, getD-mapN}
 use borrow.Author.Needs.{needs}
 use Rattle.monitor.proofs.rules_in_words.Statement.{statement}
 use Rattle.monitor.proofs.rules_in_words.Tie as tie

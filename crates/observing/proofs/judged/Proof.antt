@@ -1,0 +1,48 @@
+-- `observing::judged` meets its contract: each test of a mask for 0 is the definition's. Assumes nothing.
+use borrow.Author.Tests.{eq-eqb, ne-eqb}
+use Rattle.observing.specs.Observe.{judgedOf}
+use Rattle.observing.proofs.Leaving.{no-refusal}
+use borrow.Author.Needs.{needs}
+use Rattle.observing.proofs.judged.Statement.{statement}
+use Rattle.observing.proofs.judged.Tie as tie
+
+settle-requires : tie.Need-settle-requires
+settle-requires c κs = search needs
+
+returns : tie.Need-returns
+unfolding judgedOf
+returns c =
+    record {
+      long = λ l. c .settle .ensures l .long;
+      leaves = λ l. rw (c .settle .ensures l .held) (simp (ne-eqb (c .before .before .before .args .p .broken) 0 (c .before .before .if1 .taken)));
+      taken = no-refusal _;
+    }
+
+settle-requires-2 : tie.Need-settle-requires-2
+settle-requires-2 c κs = search needs
+
+returns-2 : tie.Need-returns-2
+unfolding judgedOf
+returns-2 c =
+    record {
+      long = λ l. c .settle2 .ensures l .long;
+      leaves = λ l. rw (c .settle2 .ensures l .held) (simp (eq-eqb (c .before .before .before .before .args .p .broken) 0 (c .before .before .before .if1 .left), ne-eqb (c .before .before .before .before .args .p .opens) 0 (c .before .before .if2 .taken)));
+      taken = no-refusal _;
+    }
+
+settle-requires-3 : tie.Need-settle-requires-3
+settle-requires-3 c κs = search needs
+
+returns-3 : tie.Need-returns-3
+unfolding judgedOf
+returns-3 c =
+    record {
+      long = λ l. c .settle3 .ensures l .long;
+      leaves = λ l. rw (c .settle3 .ensures l .held) (simp (eq-eqb (c .before .before .before .before .args .p .broken) 0 (c .before .before .before .if1 .left), eq-eqb (c .before .before .before .before .args .p .opens) 0 (c .before .before .if2 .left)));
+      taken = no-refusal _;
+    }
+
+pub judged-spec : {M : Type 1} → statement M
+judged-spec =
+    tie.close
+    (tie.spec settle-requires returns settle-requires-2 returns-2 settle-requires-3 returns-3)

@@ -1,0 +1,31 @@
+-- What one observation leaves in a monitor's words, beside its answer.
+-- Assumes nothing.
+use mathlib.Core.Path.{_≡_}
+use mathlib.Core.List.{List}
+use Prim.Native.Nat.{ℕ}
+use lib.ListN.{length}
+use Rattle.pattern.specs.Judge.{allWhole, someOpen, brokenAt}
+use Rattle.pattern.specs.Judge as J
+use Rattle.words.specs.Words.{heldBy}
+use Rattle.observing.specs.Observe.{Observed}
+use Rattle.observing.specs.declared.Answer.{Answer}
+use Rattle.observing.specs.declared.Answer.the-variants.{Whole, Open, Broken, Refused}
+
+-- the judge's value for each case of an answer
+abbrev pub said : Answer → J.Answer
+said Whole = J.verdict allWhole
+said (Open m) = J.verdict (someOpen m)
+said (Broken k m) = J.verdict (brokenAt k m)
+said (Refused n) = J.refused n
+
+-- what one observation leaves in a monitor's words, which are 34, as their type says: the monitor of a pair, its answer being the other half; a refused observation leaves every word
+pub record Leaves (before : List ℕ) (o : Observed) (a : Answer) (after : List ℕ) : Type 0 where
+  pub long : length before ≡ 34 → length after ≡ 34
+  pub leaves : length before ≡ 34 → record { monitor = heldBy after; answer = a } ≡ o
+  pub unchanged : (n : ℕ) → said a ≡ J.refused n → after ≡ before
+
+-- the same of a verdict, which is no refusal
+pub record Judges (before : List ℕ) (o : Observed) (a : Answer) (after : List ℕ) : Type 0 where
+  pub long : length before ≡ 34 → length after ≡ 34
+  pub leaves : length before ≡ 34 → record { monitor = heldBy after; answer = a } ≡ o
+  pub taken : (n : ℕ) → said a ≡ J.refused n → ⊥

@@ -1,0 +1,2 @@
+pub mod Observe
+pub mod Leaving
