@@ -27,7 +27,7 @@ use Rattle.layout.specs.Pages.{ruleAt}
 use Rattle.layout.specs.Reading.{accepted, readSheet}
 use Rattle.layout.proofs.Acceptance.{accepted-is-encoded}
 use Rattle.layout.proofs.Accepted.{rules-formed}
-use Rattle.book.specs.Words.{countIn}
+use Rattle.tables.specs.Words.{countIn}
 use Rattle.book.specs.Books.{Translates}
 use Rattle.book.specs.Looks.{Looks}
 use Rattle.book.specs.declared.Book.{Book}

@@ -5,7 +5,7 @@ use mathlib.Core.List.{List}
 use Prim.Native.Nat.{ℕ, _+_, _*_}
 use lib.Dec.{leb, ltb, eqb}
 use lib.ListN.{getD, replicate}
-use Rattle.book.specs.Words.{countIn}
+use Rattle.tables.specs.Words.{countIn}
 use Rattle.step.specs.declared.RuleState.{RuleState}
 use Rattle.words.specs.Words.{noState, Held}
 use Rattle.monitor.specs.declared.Observation.{Observation}

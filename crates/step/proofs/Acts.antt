@@ -8,8 +8,8 @@ use native.Mathlib.Omega.{arith}
 use lib.Dec.{leb, eqb}
 use lib.ListN.{getD}
 use Rattle.names.specs.Names.{member}
-use Rattle.book.specs.Words.{countIn, joinIn}
-use Rattle.book.proofs.Steps.{count-small}
+use Rattle.tables.specs.Words.{countIn, joinIn}
+use Rattle.tables.proofs.Bounds.{count-small}
 use Rattle.step.specs.declared.Plan.{Plan}
 use Rattle.step.specs.declared.RuleState.{RuleState}
 use Rattle.step.specs.declared.Stepped.{Stepped}

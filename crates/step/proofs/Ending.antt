@@ -11,7 +11,7 @@ use borrow.Author.Tests.{ne-eqb}
 use Rattle.pattern.specs.Meaning.{Join}
 use Rattle.pattern.specs.Recogniser.{isIdle, move, next, other}
 use Rattle.pattern.specs.Numbers.{stateOf, joinOf, bounds, nextState}
-use Rattle.book.specs.Words.{lowIn, highIn}
+use Rattle.tables.specs.Words.{lowIn, highIn}
 use Rattle.step.specs.declared.RuleState.{RuleState}
 use Rattle.step.specs.declared.Plan.{Plan}
 use Rattle.step.specs.Upto.{foldN}

@@ -18,7 +18,7 @@ use Rattle.pattern.specs.Model as M
 use Rattle.pattern.specs.Numbers as Num
 use Rattle.pattern.proofs.Basics.{zero-one, is-false}
 use Rattle.pattern.proofs.Keeps.{all-begun}
-use Rattle.book.specs.Words.{nameIn, lowIn, highIn}
+use Rattle.tables.specs.Words.{nameIn, lowIn, highIn}
 use Rattle.layout.specs.Layout.{kindNumber, timeOf}
 use Rattle.step.specs.declared.RuleState.{RuleState}
 use Rattle.step.specs.declared.Turned.{Turned}

@@ -11,7 +11,7 @@ use lib.ListN.{length, getD, set, replicate}
 use borrow.Author.Tests.{ne-eqb}
 use Rattle.pattern.specs.Numbers.{stateNumber, joinOf, bounds, nextState}
 use Rattle.pattern.specs.Entries.{entryState, entryIn, IsColumn}
-use Rattle.book.specs.Words.{nameIn, lowIn, highIn}
+use Rattle.tables.specs.Words.{nameIn, lowIn, highIn}
 use Rattle.step.specs.declared.RuleState.{RuleState}
 use Rattle.step.specs.Upto.{mapN, foldN, mapN-more, foldN-more}
 use Rattle.step.specs.Steps.{Ranges, wordAt, classAt, countAt, moveOf, countOf, badOf, idleOf, turnOf, begunAt, begunOf, begunStates, digits, unbegunOf, freshStates, zeros}

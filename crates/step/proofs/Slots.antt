@@ -17,7 +17,7 @@ use Rattle.pattern.specs.Recogniser.{State, idle, unbegun, waiting, counting, d
 use Rattle.pattern.specs.Numbers.{stateNumber, stateOf, joinOf, bounds, nextState}
 use Rattle.pattern.specs.Numbers as Num
 use Rattle.pattern.proofs.Numbers.{state-back}
-use Rattle.book.specs.Words.{nameIn, lowIn, highIn}
+use Rattle.tables.specs.Words.{nameIn, lowIn, highIn}
 use Rattle.step.specs.Upto.{mapN, foldN}
 use Rattle.step.specs.Steps.{Ranges, wordAt, classAt, countAt, classOf, moveOf, badOf, idleOf, countOf, begunAt, begunOf, unbegunOf, closesAt, takesAt, closesOf, takesOf}
 use Rattle.step.specs.Decode.{rangeIn, rangesFrom}

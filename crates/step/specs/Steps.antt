@@ -8,7 +8,7 @@ use lib.Dec.{leb, ltb, eqb}
 use lib.ListN.{getD, replicate}
 use Rattle.names.specs.Names.{member}
 use Rattle.pattern.specs.Numbers.{nextState}
-use Rattle.book.specs.Words.{kindIn, countPIn, timeIn, roundIn, joinIn, countIn, nameIn, lowIn, highIn}
+use Rattle.tables.specs.Words.{kindIn, countPIn, timeIn, roundIn, joinIn, countIn, nameIn, lowIn, highIn}
 use Rattle.step.specs.declared.RuleState.{RuleState}
 use Rattle.step.specs.declared.Turned.{Turned}
 use Rattle.step.specs.declared.Stepped.{Stepped}

@@ -8,7 +8,7 @@ ghost use lib.ListN.{getD};
 ghost use Rattle.names.specs.Names.{member};
 ghost use Rattle.pattern.specs.Numbers.{stateNumber, joinOf, bounds};
 ghost use Rattle.pattern.specs.Entries.{entryState, entryIn};
-ghost use Rattle.book.specs.Words.{lowIn, highIn};
+ghost use Rattle.tables.specs.Words.{lowIn, highIn};
 ghost use Rattle.step.specs.Steps.{classAt, countAt, turnOf, begunAt, begunStates, digits, freshStates, closesAt, takesAt, overAt, allOver, growsOf, completeOf, pastOf, followsOf, endOf, seenOf, dueOf, runsOf, settledOf, planOf, rangesOf, stoodOf, beginOf, stayOf, actOf};
 
 // "The monitor's state holds, for each rule, its fragment number, eight recogniser states, one count and the end time of P."
@@ -80,7 +80,7 @@ fn moved_by(column: u32, s: u8, join: u8, count: u16, word: u64) -> u8
     if entry <= 5 {
         return entry;
     }
-    pattern::decided(entry, join, count, book::low(word), book::high(word))
+    pattern::decided(entry, join, count, tables::low(word), tables::high(word))
 }
 
 // The count after an event of this class, where a range was in state s; kept is the count of the ranges before it.
@@ -140,9 +140,9 @@ fn turn(
     let mut i = 0usize;
     while i < size {
         let word = ranges[base + i];
-        let class = class_of(seen, name, book::name(word));
+        let class = class_of(seen, name, tables::name(word));
         let y = moved_by(column_of(class, own, other), old[i], join, st.count, word);
-        count = counted(class, old[i], st.count, book::high(word), count);
+        count = counted(class, old[i], st.count, tables::high(word), count);
         bad = or(bad, y == 5);
         idle = and(idle, y == 0);
         x[i] = y;
@@ -197,7 +197,7 @@ fn begun_states(ranges: &[u64; 2048], base: usize, size: usize, join: u8, name: 
     let mut i = size;
     while 0 < i {
         i = i - 1;
-        word = 256 * word + begun(name, book::name(ranges[base + i])) as u64;
+        word = 256 * word + begun(name, tables::name(ranges[base + i])) as u64;
     }
     spread(word)
 }
@@ -256,13 +256,13 @@ fn over(class: u8, s: u8, join: u8, count: u16, word: u64) -> bool
     ensures { λ r. ⌜ r ≡ overAt class s join count word ⌝ }
 {
     if class == 0 {
-        return !takes(s, count, book::high(word));
+        return !takes(s, count, tables::high(word));
     }
     if s == 0 {
         return true;
     }
     if class == 2 {
-        return closes(s, join, count, book::low(word));
+        return closes(s, join, count, tables::low(word));
     }
     false
 }
@@ -517,10 +517,10 @@ pub fn plan_of(head: u64) -> Plan
     ensures { λ r. ⌜ r ≡ planOf head ⌝ }
 {
     Plan {
-        kind: book::kind(head),
-        first: book::fragments_in_p(head),
-        last: book::fragments_in_round(head),
-        limit: book::time(head),
+        kind: tables::kind(head),
+        first: tables::fragments_in_p(head),
+        last: tables::fragments_in_round(head),
+        limit: tables::time(head),
     }
 }
 
@@ -561,8 +561,8 @@ fn moves<'a>(
     let f = st.fragment % 16;
     let k = 16 * rule + f as usize;
     let word = fragments[k];
-    let size = book::ranges_in(word) as usize;
-    let join = book::join(word);
+    let size = tables::ranges_in(word) as usize;
+    let join = tables::join(word);
     let here = names::has(names[k], name);
     let how = seen(names, rule, p, f, here, name, st.end, time);
     if passes(ranges, 8 * k, size, join, st, here, how) {
@@ -572,8 +572,8 @@ fn moves<'a>(
         return begins(
             ranges,
             8 * n,
-            book::ranges_in(w) as usize,
-            book::join(w),
+            tables::ranges_in(w) as usize,
+            tables::join(w),
             p,
             next,
             st.end,
@@ -614,8 +614,8 @@ pub fn act<'a>(
     }
     let k = 16 * rule + o.fragment as usize;
     let word = fragments[k];
-    let size = book::ranges_in(word) as usize;
-    let s = standing(ranges, 8 * k, size, book::join(word), p, o, time);
+    let size = tables::ranges_in(word) as usize;
+    let s = standing(ranges, 8 * k, size, tables::join(word), p, o, time);
     Stepped {
         state: o,
         standing: s,

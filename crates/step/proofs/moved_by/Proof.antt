@@ -3,7 +3,7 @@ use mathlib.Core.Path.{sym, _∙_}
 use native.Mathlib.Omega.{arith}
 use Rattle.pattern.specs.Numbers.{joinOf, bounds}
 use Rattle.pattern.proofs.Moves.{entry-is}
-use Rattle.book.specs.Words.{lowIn, highIn}
+use Rattle.tables.specs.Words.{lowIn, highIn}
 use borrow.Author.Needs.{needs}
 use Rattle.step.proofs.moved_by.Statement.{statement}
 use Rattle.step.proofs.moved_by.Tie as tie

@@ -1,13 +1,13 @@
--- `book::fragments_in_round` meets its contract. Assumes nothing.
+-- `tables::fragments_in_round` meets its contract. Assumes nothing.
 use mathlib.Core.Path.{_≡_}
 use mathlib.Core.Bool.{cond}
 use Prim.Native.Nat.{ℕ, _+_, _<_, _≤_}
 use borrow.Author.Tests.{lt-ltb, le-ltb}
 use lib.Dec.{eqb}
-use Rattle.book.specs.Words.{roundIn, kindIn, countPIn, countQIn}
+use Rattle.tables.specs.Words.{roundIn, kindIn, countPIn, countQIn}
 use borrow.Author.Needs.{needs}
-use Rattle.book.proofs.fragments_in_round.Statement.{statement}
-use Rattle.book.proofs.fragments_in_round.Tie as tie
+use Rattle.tables.proofs.fragments_in_round.Statement.{statement}
+use Rattle.tables.proofs.fragments_in_round.Tie as tie
 
 module _ (head : ℕ) {p last : ℕ} (ep : p ≡ countPIn head) (el : last ≡ cond (eqb (kindIn head) 2) (countQIn head) 1) where
   many : 16 < p + last → 16 ≡ roundIn head

@@ -1,9 +1,9 @@
--- `book::ranges_in` meets its contract. Assumes nothing.
-use Rattle.book.specs.Words.{countIn}
+-- `tables::ranges_in` meets its contract. Assumes nothing.
+use Rattle.tables.specs.Words.{countIn}
 use borrow.Author.Tests.{lt-ltb, le-ltb}
 use borrow.Author.Needs.{needs}
-use Rattle.book.proofs.ranges_in.Statement.{statement}
-use Rattle.book.proofs.ranges_in.Tie as tie
+use Rattle.tables.proofs.ranges_in.Statement.{statement}
+use Rattle.tables.proofs.ranges_in.Tie as tie
 
 returns : tie.Need-returns
 unfolding countIn

@@ -1,27 +1,21 @@
--- What the numbers of the tables hold: a well-formed part is read off its word.
+-- A rule's head: what it holds is read off the number of a well-formed rule.
 -- Assumes nothing.
 use mathlib.Core.Path.{_≡_, sym}
 use mathlib.Core.List.{List, [], _∷_, _++_}
-use Prim.Native.Nat.{ℕ, _+_, _*_, _/_, _%_, _≤_, _<_}
+use Prim.Native.Nat.{ℕ, _+_, _*_, _<_}
 use native.Mathlib.Omega.{arith}
 use lib.ListN.{length, length-append}
-use borrow.Author.Tests.{le-ltb}
-use Rattle.pattern.specs.Meaning.{Range, Join, all, any, Fragment, Kind, once, repeated, timed, Rule, WellFormedRange, WellFormedFragment, WellFormed}
+use Rattle.pattern.specs.Meaning.{Fragment, Kind, once, repeated, timed, Rule, WellFormed}
 use Rattle.pattern.specs.Model.{triggerFragment, lastFragments, roundOf}
-use Rattle.layout.specs.Layout.{headerOf, joinNumber, kindNumber, inQ, triggerOf, timeOf}
+use Rattle.layout.specs.Layout.{headerOf, kindNumber, inQ, triggerOf, timeOf}
 use Rattle.layout.specs.Reading.{byKind}
-use Rattle.layout.specs.Pages.{headerWord, fragmentWord, rangeWord}
+use Rattle.layout.specs.Pages.{headerWord}
 use Rattle.layout.proofs.PageLaws.{round-few}
-use Rattle.book.specs.Words.{cap, kindIn, countPIn, countQIn, triggerIn, timeIn, roundIn, joinIn, countIn, nameIn, lowIn, highIn}
+use Rattle.tables.specs.Words.{kindIn, countPIn, countQIn, triggerIn, timeIn, roundIn}
+use Rattle.tables.proofs.Bounds.{cap-of}
 use Rattle.book.specs.Looks.{LooksHead}
 
 -- ---- numbers
-
-low-part : (b y : ℕ) → b < 256 → (b + 256 * y) % 256 ≡ b
-low-part b y h = omega arith
-
-high-part : (b y : ℕ) → b < 256 → (b + 256 * y) / 256 ≡ y
-high-part b y h = omega arith
 
 -- five fields of one number
 record Fields (k p q i t : ℕ) : Type 0 where
@@ -53,9 +47,6 @@ round-length (once i) p = sym (length-append p (triggerFragment i ∷ []))
 round-length (repeated i) p = sym (length-append p (triggerFragment i ∷ []))
 round-length (timed q t) p = sym (length-append p q)
 
-cap-of : (most n : ℕ) → n ≤ most → cap most n ≡ n
-cap-of most n h = rw (le-ltb most n h)
-
 pub looks-head : (r : Rule) → WellFormed r → LooksHead (headerWord (headerOf r)) r
 unfolding roundIn
 looks-head r w =
@@ -70,28 +61,3 @@ looks-head r w =
       time = f .time;
       round = rw (f .countP, f .kind, f .countQ, round-length (r .kind) (r .p)) (cap-of 16 (length (roundOf r)) (round-few r w));
     }
-
--- ---- a fragment's word
-
-join-small : (j : Join) → joinNumber j < 256
-join-small all = omega arith
-join-small any = omega arith
-
-pub join-in : (f : Fragment) → joinIn (fragmentWord f) ≡ joinNumber (f .join)
-join-in f = low-part (joinNumber (f .join)) (length (f .ranges)) (join-small (f .join))
-
-pub count-in : (f : Fragment) → WellFormedFragment f → countIn (fragmentWord f) ≡ length (f .ranges)
-unfolding countIn
-count-in f w = rw (high-part (joinNumber (f .join)) (length (f .ranges)) (join-small (f .join))) (cap-of 8 (length (f .ranges)) (w .count .1))
-
--- ---- a range's word
-
-module _ (r : Range) (w : WellFormedRange r) where
-  pub name-in : nameIn (rangeWord r) ≡ r .name
-  name-in = let h : r .name ≤ 63 = w .named in omega arith
-
-  pub low-in : lowIn (rangeWord r) ≡ r .u
-  low-in = let h : r .name ≤ 63 = w .named in let l : r .u ≤ 65535 = omega (arith, w .order, w .few) in omega arith
-
-  pub high-in : highIn (rangeWord r) ≡ r .v
-  high-in = let h : r .name ≤ 63 = w .named in let l : r .u ≤ 65535 = omega (arith, w .order, w .few) in let m : r .v ≤ 65535 = w .few in omega arith

@@ -1,9 +1,9 @@
--- `book::fragments_last` meets its contract, by the kind. Assumes nothing.
+-- `tables::fragments_last` meets its contract, by the kind. Assumes nothing.
 use mathlib.Core.Path.{_∙_, sym}
 use borrow.Author.Tests.{eq-eqb, ne-eqb}
 use borrow.Author.Needs.{needs}
-use Rattle.book.proofs.fragments_last.Statement.{statement}
-use Rattle.book.proofs.fragments_last.Tie as tie
+use Rattle.tables.proofs.fragments_last.Statement.{statement}
+use Rattle.tables.proofs.fragments_last.Tie as tie
 
 kind-requires : tie.Need-kind-requires
 kind-requires c κs = search needs
