@@ -34,8 +34,9 @@ use Rattle.book.specs.declared.Book.{Book}
 use Rattle.book.specs.declared.Translation.{Translation}
 use Rattle.book.proofs.Translated.{translated}
 use Rattle.step.specs.declared.RuleState.{RuleState}
-use Rattle.step.specs.Upto.{mapN, length-mapN}
-use Rattle.step.specs.Steps.{Ranges, rangesOf, unbegunOf, zeros, freshStates}
+use Rattle.fragment.specs.Upto.{mapN, length-mapN}
+use Rattle.fragment.specs.Fragments.{Ranges, unbegunOf, zeros, freshStates}
+use Rattle.step.specs.Steps.{rangesOf}
 use Rattle.step.specs.Decode.{decode, HoldsFragment}
 use Rattle.step.proofs.Slots.{fresh-are}
 use Rattle.step.proofs.Status.{running, isTimed}

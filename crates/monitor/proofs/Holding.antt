@@ -18,7 +18,8 @@ use Rattle.book.specs.Looks.{Looks, LooksFragment}
 use Rattle.book.specs.declared.Book.{Book}
 use Rattle.book.proofs.SetLaws.{round-names}
 use Rattle.tables.proofs.Bounds.{count-small}
-use Rattle.step.specs.Steps.{Ranges, wordAt, planOf, rangesOf}
+use Rattle.fragment.specs.Fragments.{Ranges, wordAt}
+use Rattle.step.specs.Steps.{planOf, rangesOf}
 use Rattle.step.specs.Decode.{rangeIn, rangesFrom, HoldsFragment}
 use Rattle.step.proofs.Links.{Rules}
 

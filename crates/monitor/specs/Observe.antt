@@ -12,8 +12,9 @@ use Rattle.monitor.specs.declared.Observation.{Observation}
 use Rattle.monitor.specs.declared.Observation.the-variants.{Event, Clock}
 use Rattle.monitor.specs.declared.Answer.{Answer}
 use Rattle.monitor.specs.declared.Answer.the-variants.{Whole, Open, Broken, Refused}
-use Rattle.step.specs.Upto.{mapN}
-use Rattle.step.specs.Steps.{Tables, freshStates}
+use Rattle.fragment.specs.Upto.{mapN}
+use Rattle.fragment.specs.Fragments.{freshStates}
+use Rattle.step.specs.Steps.{Tables}
 use Rattle.monitor.specs.Pass.{Pass, passOf}
 
 -- a monitor after an observation, and the answer

@@ -267,7 +267,7 @@ fn unstarted(fragments: &[u16; 256]) -> [u64; 34]
     let mut r = 0usize;
     while r < 16 {
         let size = tables::ranges_in(fragments[16 * r]) as usize;
-        let states = step::fresh_states(size);
+        let states = fragment::fresh_states(size);
         let st = step::RuleState {
             fragment: 0,
             states: states,

@@ -14,7 +14,8 @@ use Rattle.layout.specs.Layout.{kindNumber, timeOf}
 use Rattle.tables.specs.Words.{nameIn, lowIn, highIn}
 use Rattle.step.specs.declared.RuleState.{RuleState}
 use Rattle.step.specs.declared.Plan.{Plan}
-use Rattle.step.specs.Steps.{Ranges, wordAt, rangesOf}
+use Rattle.fragment.specs.Fragments.{Ranges, wordAt}
+use Rattle.step.specs.Steps.{rangesOf}
 
 -- a rule's state
 abbrev pub decode : RuleState → M.RuleState
