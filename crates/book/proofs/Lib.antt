@@ -1,5 +1,5 @@
 pub mod Steps
-pub mod WordLaws
+pub mod HeadLaws
 pub mod SetLaws
 pub mod Lookups
 pub mod Injective

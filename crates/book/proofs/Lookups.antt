@@ -16,11 +16,12 @@ use Rattle.names.specs.Names.{member}
 use Rattle.layout.specs.Layout.{Sheet, WellFormedRule, WellFormedSheet}
 use Rattle.layout.specs.Pages.{fragmentWord, rangeWord, headTable, fragmentTable, rangeTable, noRange, noRule, ruleAt, rangeAt}
 use Rattle.layout.proofs.PageLaws.{head-at, fragment-at, range-at, round-formed, round-few, each-at}
-use Rattle.book.specs.Words.{cap, nameIn, countIn}
+use Rattle.tables.specs.Words.{cap, nameIn, countIn}
 use Rattle.book.specs.Tables.{fragmentSet, nameTable, ruleSet, ruleTable, maskOf, holderTable, namesFrom, unionFrom}
 use Rattle.book.specs.Books.{bookOf}
 use Rattle.book.specs.Looks.{LooksHead, LooksFragment, LooksRange, Looks}
-use Rattle.book.proofs.WordLaws.{looks-head, join-in, count-in, name-in, low-in, high-in}
+use Rattle.tables.proofs.WordLaws.{join-in, count-in, name-in, low-in, high-in}
+use Rattle.book.proofs.HeadLaws.{looks-head}
 use Rattle.book.proofs.SetLaws.{stored-at, round-names, member-names, member-union, member-mask}
 
 module _ (S : Sheet) (formed : WellFormedSheet S) where

@@ -15,7 +15,7 @@ use Rattle.pattern.specs.Model.{lastFragments, roundOf, noFragment}
 use Rattle.names.specs.Names.{member, insert}
 use Rattle.names.proofs.Digits.{member-or}
 use Rattle.names.proofs.Sets.{member-empty, member-insert}
-use Rattle.book.specs.Words.{nameIn}
+use Rattle.tables.specs.Words.{nameIn}
 use Rattle.book.specs.Tables.{stored, namesFrom, unionFrom, maskOf}
 
 -- ---- a table stored entry by entry

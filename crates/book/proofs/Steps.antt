@@ -1,21 +1,18 @@
 -- One turn of each loop that makes a table: what is made of i of them, and one more, is what is made of i + 1.
 -- Assumes nothing.
-use mathlib.Core.Path.{_≡_, refl, _∙_}
+use mathlib.Core.Path.{_≡_, _∙_}
 use mathlib.Core.Bool.{Bool, true, false, cond}
 use mathlib.Core.List.{List}
-use Prim.Native.Nat.{ℕ, zero, suc, _+_, _/_, _<_, _≤_, _^_}
+use Prim.Native.Nat.{ℕ, zero, suc, _+_, _<_, _≤_, _^_}
 use native.Mathlib.Nat.{mod-lt, zero-lt-suc}
 use native.Mathlib.Numerals.{add-one}
 use native.Mathlib.Omega.{arith}
 use lib.Bits.{bitOr}
-use lib.Dec.{ltb}
 use lib.ListN.{getD, set}
-use borrow.Author.Tests.{ltb-false}
 use Rattle.names.specs.Names.{member, insert, withName}
 use Rattle.names.proofs.Sets.{insert-below}
-use Rattle.layout.specs.Reading.{byKind}
 use Rattle.layout.proofs.Values.{with-name}
-use Rattle.book.specs.Words.{cap, mostRanges, nameIn, kindIn, countPIn, countQIn, roundIn, countIn}
+use Rattle.tables.specs.Words.{nameIn}
 use Rattle.book.specs.Tables.{stored, namesFrom, unionFrom, maskOf}
 
 pub stored-more : (f : ℕ → ℕ) (t : List ℕ) (i : ℕ) {table : List ℕ} {x : ℕ} → table ≡ stored f i t → x ≡ f i → set table i x ≡ stored f (i + 1) t
@@ -44,18 +41,3 @@ mask-below sets m zero h = omega arith
 mask-below sets m (suc n) h =
     let l : maskOf sets m n < 2 ^ 16 = mask-below sets m n (omega (arith, h)) in
     either (member (getD sets n 0) m) (insert-below 16 (maskOf sets m n) n l (omega (arith, h))) l
-
-pub cap-small : (most n : ℕ) → cap most n ≤ most
-cap-small most n = go (ltb most n) refl
-  where
-    go : (b : Bool) → ltb most n ≡ b → cond b most n ≤ most
-    go true e = omega arith
-    go false e = ltb-false most n e
-
-pub round-small : (head : ℕ) → roundIn head ≤ 16
-unfolding roundIn
-round-small head = cap-small 16 (countPIn head + byKind (kindIn head) (countQIn head) 1)
-
-pub count-small : (word : ℕ) → countIn word ≤ 8
-unfolding countIn
-count-small word = let h : cap mostRanges (word / 256) ≤ mostRanges = cap-small mostRanges (word / 256) in omega (arith, h)

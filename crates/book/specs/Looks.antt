@@ -12,7 +12,7 @@ use Rattle.pattern.specs.Model.{roundOf, fragmentAt}
 use Rattle.names.specs.Names.{member}
 use Rattle.layout.specs.Layout.{Sheet, joinNumber, kindNumber, inQ, triggerOf, timeOf, version}
 use Rattle.layout.specs.Pages.{ruleAt, rangeAt}
-use Rattle.book.specs.Words.{kindIn, countPIn, countQIn, triggerIn, timeIn, roundIn, joinIn, countIn, nameIn, lowIn, highIn}
+use Rattle.tables.specs.Words.{kindIn, countPIn, countQIn, triggerIn, timeIn, roundIn, joinIn, countIn, nameIn, lowIn, highIn}
 use Rattle.book.specs.declared.Book.{Book}
 
 -- a rule's head

@@ -7,7 +7,7 @@ use Prim.Native.Nat.{ℕ, zero, suc, _+_, _*_}
 use lib.Bits.{bitOr}
 use lib.ListN.{getD, set, replicate}
 use Rattle.names.specs.Names.{member, insert}
-use Rattle.book.specs.Words.{cap, roundIn, countIn, nameIn}
+use Rattle.tables.specs.Words.{cap, roundIn, countIn, nameIn}
 
 -- f of each number below n, stored at it
 abbrev pub stored : (ℕ → ℕ) → ℕ → List ℕ → List ℕ

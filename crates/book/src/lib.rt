@@ -2,101 +2,10 @@
 ghost use mathlib.Core.Path.{_≡_};
 ghost use mathlib.Core.Bool.{cond};
 ghost use Prim.Native.Nat.{_+_, _*_, _<_, _≤_};
-ghost use lib.Dec.{eqb};
 ghost use Rattle.names.specs.Names.{member, insert};
-ghost use Rattle.book.specs.Words.{cap, kindIn, countPIn, countQIn, triggerIn, timeIn, roundIn, joinIn, countIn, nameIn, lowIn, highIn};
+ghost use Rattle.tables.specs.Words.{cap};
 ghost use Rattle.book.specs.Tables.{fragmentSet, nameTable, ruleSet, ruleTable, maskOf, holderTable};
 ghost use Rattle.book.specs.Books.{Translates, bookFrom};
-
-// ---- what a number of the tables holds: a rule's head
-
-pub fn kind(head: u64) -> u8
-    ensures { λ r. ⌜ r ≡ kindIn head ⌝ }
-{
-    (head % 256) as u8
-}
-
-pub fn fragments_in_p(head: u64) -> u8
-    ensures { λ r. ⌜ r ≡ countPIn head ⌝ }
-{
-    (head / 256 % 256) as u8
-}
-
-pub fn fragments_in_q(head: u64) -> u8
-    ensures { λ r. ⌜ r ≡ countQIn head ⌝ }
-{
-    (head / 65536 % 256) as u8
-}
-
-pub fn trigger(head: u64) -> u8
-    ensures { λ r. ⌜ r ≡ triggerIn head ⌝ }
-{
-    (head / 16777216 % 256) as u8
-}
-
-pub fn time(head: u64) -> u32
-    ensures { λ r. ⌜ r ≡ timeIn head ⌝ }
-{
-    (head / 4294967296 % 4294967296) as u32
-}
-
-// Fragments in the round.
-pub fn fragments_in_round(head: u64) -> u8
-    ensures { λ r. ⌜ r ≡ roundIn head ⌝ }
-{
-    let p = fragments_in_p(head) as u64;
-    let last = fragments_last(head) as u64;
-    if 16 < p + last {
-        return 16;
-    }
-    (p + last) as u8
-}
-
-// Fragments in the round after P: Q's, or the trigger's one.
-fn fragments_last(head: u64) -> u8
-    ensures { λ r. ⌜ r ≡ cond (eqb (kindIn head) 2) (countQIn head) 1 ⌝ }
-{
-    if kind(head) == 2 {
-        return fragments_in_q(head);
-    }
-    1
-}
-
-// A fragment's word.
-pub fn join(word: u16) -> u8
-    ensures { λ r. ⌜ r ≡ joinIn word ⌝ }
-{
-    (word % 256) as u8
-}
-
-pub fn ranges_in(word: u16) -> u8
-    ensures { λ r. ⌜ r ≡ countIn word ⌝ }
-{
-    let n = word / 256;
-    if 8 < n {
-        return 8;
-    }
-    n as u8
-}
-
-// A range's word.
-pub fn name(word: u64) -> u8
-    ensures { λ r. ⌜ r ≡ nameIn word ⌝ }
-{
-    (word % 64) as u8
-}
-
-pub fn low(word: u64) -> u16
-    ensures { λ r. ⌜ r ≡ lowIn word ⌝ }
-{
-    (word / 256 % 65536) as u16
-}
-
-pub fn high(word: u64) -> u16
-    ensures { λ r. ⌜ r ≡ highIn word ⌝ }
-{
-    (word / 16777216 % 65536) as u16
-}
 
 // ---- the names of each fragment
 
@@ -105,12 +14,12 @@ fn fragment_set<'a>(fragments: &'a [u16; 256], ranges: &'a [u64; 2048], k: usize
     requires { ⌜ k < 256 ⌝ }
     ensures { λ r. ⌜ r ≡ fragmentSet (now (fragments .entry)) (now (ranges .entry)) k ⌝ }
 {
-    let count = ranges_in(fragments[k]) as usize;
+    let count = tables::ranges_in(fragments[k]) as usize;
     let base = 8 * k;
     let mut set = 0u64;
     let mut i = 0usize;
     while i < count {
-        set = names::with(set, name(ranges[base + i]));
+        set = names::with(set, tables::name(ranges[base + i]));
         i = i + 1;
     }
     set
@@ -135,7 +44,7 @@ fn rule_set<'a>(heads: &'a [u64; 16], names: &'a [u64; 256], r: usize) -> u64
     requires { ⌜ r < 16 ⌝ }
     ensures { λ x. ⌜ x ≡ ruleSet (now (heads .entry)) (now (names .entry)) r ⌝ }
 {
-    let count = fragments_in_round(heads[r]) as usize;
+    let count = tables::fragments_in_round(heads[r]) as usize;
     let base = 16 * r;
     let mut set = 0u64;
     let mut i = 0usize;

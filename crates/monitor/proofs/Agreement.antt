@@ -27,15 +27,16 @@ use Rattle.layout.specs.Pages.{ruleAt}
 use Rattle.layout.specs.Reading.{accepted, readSheet}
 use Rattle.layout.proofs.Acceptance.{accepted-is-encoded}
 use Rattle.layout.proofs.Accepted.{rules-formed}
-use Rattle.book.specs.Words.{countIn}
+use Rattle.tables.specs.Words.{countIn}
 use Rattle.book.specs.Books.{Translates}
 use Rattle.book.specs.Looks.{Looks}
 use Rattle.book.specs.declared.Book.{Book}
 use Rattle.book.specs.declared.Translation.{Translation}
 use Rattle.book.proofs.Translated.{translated}
 use Rattle.step.specs.declared.RuleState.{RuleState}
-use Rattle.step.specs.Upto.{mapN, length-mapN}
-use Rattle.step.specs.Steps.{Ranges, rangesOf, unbegunOf, zeros, freshStates}
+use Rattle.fragment.specs.Upto.{mapN, length-mapN}
+use Rattle.fragment.specs.Fragments.{Ranges, unbegunOf, zeros, freshStates}
+use Rattle.step.specs.Steps.{rangesOf}
 use Rattle.step.specs.Decode.{decode, HoldsFragment}
 use Rattle.step.proofs.Slots.{fresh-are}
 use Rattle.step.proofs.Status.{running, isTimed}

@@ -17,8 +17,9 @@ use Rattle.layout.proofs.PageLaws.{each-at, round-few}
 use Rattle.book.specs.Looks.{Looks, LooksFragment}
 use Rattle.book.specs.declared.Book.{Book}
 use Rattle.book.proofs.SetLaws.{round-names}
-use Rattle.book.proofs.Steps.{count-small}
-use Rattle.step.specs.Steps.{Ranges, wordAt, planOf, rangesOf}
+use Rattle.tables.proofs.Bounds.{count-small}
+use Rattle.fragment.specs.Fragments.{Ranges, wordAt}
+use Rattle.step.specs.Steps.{planOf, rangesOf}
 use Rattle.step.specs.Decode.{rangeIn, rangesFrom, HoldsFragment}
 use Rattle.step.proofs.Links.{Rules}
 

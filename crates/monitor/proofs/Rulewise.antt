@@ -15,10 +15,11 @@ use Rattle.pattern.specs.Model.{step, statusAt, inTime}
 use Rattle.pattern.specs.Model as M
 use Rattle.pattern.proofs.Basics.{zero-one}
 use Rattle.step.specs.declared.RuleState.{RuleState}
-use Rattle.step.specs.declared.Turned.{Turned}
+use Rattle.fragment.specs.declared.Turned.{Turned}
 use Rattle.step.specs.declared.Stepped.{Stepped}
 use Rattle.step.specs.declared.Plan.{Plan}
-use Rattle.step.specs.Steps.{Ranges, Tables, planOf, actOf, dueOf, pastOf, runsOf, completeOf, growsOf, standingOf, settledOf, rangesOf, turnOf, followsOf, seenOf, beginOf, stayOf}
+use Rattle.fragment.specs.Fragments.{Ranges, completeOf, growsOf, turnOf}
+use Rattle.step.specs.Steps.{Tables, planOf, actOf, dueOf, pastOf, runsOf, standingOf, settledOf, rangesOf, followsOf, seenOf, beginOf, stayOf}
 use Rattle.step.specs.Decode.{decode}
 use Rattle.step.proofs.Status.{running, time-alone, running-is}
 use Rattle.step.proofs.Links.{statusIn, Rules, Stands, acts, past-at}
@@ -62,7 +63,7 @@ act-few fragments names ranges r p st name time =
     let here : Bool = member (getD names (16 * r + f) 0) name in
     let there : Bool = member (getD names (16 * r + next) 0) name in
     let g : Ranges = rangesOf fragments ranges (16 * r + f) in
-    let x : Turned = turnOf g name (seenOf p f next here there (st .end) time) st in
+    let x : Turned = turnOf g name (seenOf p f next here there (st .end) time) (st .states) (st .count) in
     cond-stepped (eqb (p .kind) 0 && leb (p .first) f) (record { state = st; standing = 0 }) _ (omega arith)
     (cond-stepped (not here && x .idle) (beginOf (rangesOf fragments ranges (16 * r + next)) p next (st .end) name time) (stayOf g p st f x time) (begin-few (rangesOf fragments ranges (16 * r + next)) p next (st .end) name time) (stay-few g p st f x time))
 

@@ -21,7 +21,7 @@ use Rattle.masks.specs.Masks.{maskN}
 use Rattle.masks.proofs.Members.{same-members, maskN-below, member-maskN, member-maskN-past}
 use Rattle.masks.proofs.Statuses.{member-mask, mask-below, member-mask-past}
 use Rattle.step.specs.declared.RuleState.{RuleState}
-use Rattle.step.specs.Upto.{mapN, length-mapN}
+use Rattle.fragment.specs.Upto.{mapN, length-mapN}
 use Rattle.step.specs.Steps.{Tables, planOf}
 use Rattle.step.specs.Decode.{decode}
 use Rattle.step.proofs.Status.{running}

@@ -3,10 +3,10 @@
 use mathlib.Core.List.{List}
 use Prim.Native.Nat.{ℕ, _*_}
 use lib.ListN.{getD, replicate}
-use Rattle.book.specs.Words.{countIn}
+use Rattle.tables.specs.Words.{countIn}
 use Rattle.step.specs.declared.RuleState.{RuleState}
-use Rattle.step.specs.Upto.{mapN}
-use Rattle.step.specs.Steps.{freshStates}
+use Rattle.fragment.specs.Upto.{mapN}
+use Rattle.fragment.specs.Fragments.{freshStates}
 use Rattle.words.specs.Words.{noState, Held}
 
 -- a fresh rule stands before its first fragment

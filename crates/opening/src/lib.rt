@@ -9,8 +9,8 @@ pub fn unstarted(fragments: &[u16; 256]) -> [u64; 34]
     let mut m = [0u64; 34];
     let mut r = 0usize;
     while r < 16 {
-        let size = book::ranges_in(fragments[16 * r]) as usize;
-        let states = step::fresh_states(size);
+        let size = tables::ranges_in(fragments[16 * r]) as usize;
+        let states = fragment::fresh_states(size);
         let st = step::RuleState {
             fragment: 0,
             states: states,

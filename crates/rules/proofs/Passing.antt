@@ -17,7 +17,7 @@ use Rattle.masks.specs.Masks.{maskN, Union, Without, With, Less}
 use Rattle.masks.proofs.Members.{mask-is}
 use Rattle.step.specs.declared.RuleState.{RuleState}
 use Rattle.step.specs.declared.Stepped.{Stepped}
-use Rattle.step.specs.Upto.{mapN}
+use Rattle.fragment.specs.Upto.{mapN}
 use Rattle.step.specs.Steps.{Tables}
 use Rattle.words.specs.Words.{noState, rulesIn, Stores}
 use Rattle.words.proofs.Laws.{sixteen}

@@ -12,7 +12,7 @@ use Rattle.step.specs.declared.Stepped.{Stepped}
 use Rattle.words.specs.Words.{noState, rulesIn}
 use Rattle.rules.specs.declared.Masks.{Masks}
 use Rattle.masks.specs.Masks.{maskN}
-use Rattle.step.specs.Upto.{mapN}
+use Rattle.fragment.specs.Upto.{mapN}
 use Rattle.step.specs.Steps.{Tables, planOf, actOf, dueOf}
 
 -- a rule at an observation: it has the name, or a deadline of its runs

@@ -8,13 +8,14 @@ use native.Mathlib.Omega.{arith}
 use lib.Dec.{leb, eqb}
 use lib.ListN.{getD}
 use Rattle.names.specs.Names.{member}
-use Rattle.book.specs.Words.{countIn, joinIn}
-use Rattle.book.proofs.Steps.{count-small}
+use Rattle.tables.specs.Words.{countIn, joinIn}
+use Rattle.tables.proofs.Bounds.{count-small}
 use Rattle.step.specs.declared.Plan.{Plan}
 use Rattle.step.specs.declared.RuleState.{RuleState}
 use Rattle.step.specs.declared.Stepped.{Stepped}
 use Rattle.step.specs.declared.Moved.{Moved}
-use Rattle.step.specs.Steps.{Ranges, turnOf, allOver, followsOf, seenOf, settledOf, rangesOf, stoodOf, beginOf, stayOf, actOf}
+use Rattle.fragment.specs.Fragments.{Ranges, turnOf, allOver}
+use Rattle.step.specs.Steps.{followsOf, seenOf, settledOf, rangesOf, stoodOf, beginOf, stayOf, actOf}
 use Rattle.step.proofs.Ending.{passes-is}
 
 pub ranges-few : (word : ℕ) {size : ℕ} → size ≡ countIn word → size ≤ 8
@@ -66,7 +67,7 @@ module _ (fragments names ranges : List ℕ) (r : ℕ) (p : Plan) (st : RuleStat
     )
 
     pub act-stays : a .passed ≡ false → m .state .fragment ≡ st .fragment % 16
-        → stoodOf (record { words = ranges; base = 8 * (16 * r + st .fragment % 16); size = a .size; join = a .join }) p m now ≡ stayOf (record { words = ranges; base = 8 * (16 * r + st .fragment % 16); size = a .size; join = a .join }) p st (st .fragment % 16) (turnOf (record { words = ranges; base = 8 * (16 * r + st .fragment % 16); size = a .size; join = a .join }) name (a .seen) st) now
+        → stoodOf (record { words = ranges; base = 8 * (16 * r + st .fragment % 16); size = a .size; join = a .join }) p m now ≡ stayOf (record { words = ranges; base = 8 * (16 * r + st .fragment % 16); size = a .size; join = a .join }) p st (st .fragment % 16) (turnOf (record { words = ranges; base = 8 * (16 * r + st .fragment % 16); size = a .size; join = a .join }) name (a .seen) (st .states) (st .count)) now
         → Acts m
     unfolding actOf rangesOf
     act-stays b ef e = (

@@ -11,11 +11,12 @@ use borrow.Author.Tests.{ne-eqb}
 use Rattle.pattern.specs.Meaning.{Join}
 use Rattle.pattern.specs.Recogniser.{isIdle, move, next, other}
 use Rattle.pattern.specs.Numbers.{stateOf, joinOf, bounds, nextState}
-use Rattle.book.specs.Words.{lowIn, highIn}
+use Rattle.tables.specs.Words.{lowIn, highIn}
 use Rattle.step.specs.declared.RuleState.{RuleState}
 use Rattle.step.specs.declared.Plan.{Plan}
-use Rattle.step.specs.Upto.{foldN}
-use Rattle.step.specs.Steps.{Ranges, wordAt, classAt, moveOf, turnOf, takesAt, completeOf, growsOf, overAt, allOver, pastOf, seenOf}
+use Rattle.fragment.specs.Upto.{foldN}
+use Rattle.fragment.specs.Fragments.{Ranges, wordAt, classAt, moveOf, turnOf, takesAt, completeOf, growsOf, overAt, allOver}
+use Rattle.step.specs.Steps.{pastOf, seenOf}
 use Rattle.step.proofs.Slots.{idle-number, closes-is}
 
 -- ---- one range
@@ -78,13 +79,13 @@ unfolding growsOf allOver overAt
 grows-over g states count = sym (fold-not (λ i s. takesAt s count (highIn (wordAt g i))) (g .size) 0 states false)
 
 module _ (g : Ranges) (name : ℕ) (st : RuleState) where
-  idle-is : (late there : Bool) → turnOf g name (away late there) st .idle ≡ allOver g (away late there) (st .states) (st .count)
+  idle-is : (late there : Bool) → turnOf g name (away late there) (st .states) (st .count) .idle ≡ allOver g (away late there) (st .states) (st .count)
   unfolding turnOf allOver
   idle-is late there = fold-same _ _ (λ i s. idle-at g name (st .count) i s late there) (g .size) 0 (st .states) true
 
   -- whether the event is the first of the following fragment
   pub passes-is : (p : Plan) (f n : ℕ) (here there : Bool) (now : ℕ)
-      → (not here && turnOf g name (seenOf p f n here there (st .end) now) st .idle) ≡ (not here && allOver g (seenOf p f n here there (st .end) now) (st .states) (st .count))
+      → (not here && turnOf g name (seenOf p f n here there (st .end) now) (st .states) (st .count) .idle) ≡ (not here && allOver g (seenOf p f n here there (st .end) now) (st .states) (st .count))
   unfolding seenOf
   passes-is p f n true there now = refl
   passes-is p f n false there now = idle-is (leb (p .first) n && pastOf p (st .end) now) there

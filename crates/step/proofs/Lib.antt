@@ -1,4 +1,3 @@
-mod Loops
 pub mod Slots
 mod Ending
 mod Acts

@@ -18,14 +18,15 @@ use Rattle.pattern.specs.Model as M
 use Rattle.pattern.specs.Numbers as Num
 use Rattle.pattern.proofs.Basics.{zero-one, is-false}
 use Rattle.pattern.proofs.Keeps.{all-begun}
-use Rattle.book.specs.Words.{nameIn, lowIn, highIn}
+use Rattle.tables.specs.Words.{nameIn, lowIn, highIn}
 use Rattle.layout.specs.Layout.{kindNumber, timeOf}
 use Rattle.step.specs.declared.RuleState.{RuleState}
-use Rattle.step.specs.declared.Turned.{Turned}
+use Rattle.fragment.specs.declared.Turned.{Turned}
 use Rattle.step.specs.declared.Stepped.{Stepped}
 use Rattle.step.specs.declared.Plan.{Plan}
-use Rattle.step.specs.Steps.{Ranges, classAt, countOf, moveOf, turnOf, zeros, begunOf, begunStates, completeOf, growsOf, pastOf, followsOf, endOf, seenOf, dueOf, runsOf, standingOf, settledOf, rangesOf, beginOf, stayOf, actOf}
-use Rattle.step.specs.Upto.{length-mapN, foldN}
+use Rattle.fragment.specs.Fragments.{Ranges, classAt, countOf, moveOf, turnOf, zeros, begunOf, begunStates, completeOf, growsOf}
+use Rattle.step.specs.Steps.{pastOf, followsOf, endOf, seenOf, dueOf, runsOf, standingOf, settledOf, rangesOf, beginOf, stayOf, actOf}
+use Rattle.fragment.specs.Upto.{length-mapN, foldN}
 use Rattle.step.specs.Decode.{decode, rangeIn, HoldsFragment, Holds}
 use Rattle.step.proofs.Slots.{moves-are, bad-is, idle-is, complete-is, grows-is, begun-are, count-kept, count-own}
 use Rattle.step.proofs.Status.{isTimed, running}
@@ -92,24 +93,24 @@ module _ (g : Ranges) (f : Fragment) (hf : HoldsFragment g f) (distinct : Distin
     cl x = cond late other (cond here (within name x) (cond there next other))
 
     abbrev x : Turned
-    x = turnOf g name (seenIn late here there) st
+    x = turnOf g name (seenIn late here there) (st .states) (st .count)
 
     sees : (word : ℕ) → Num.classOf (classAt (seenIn late here there) name (nameIn word)) ≡ cond late other (cond here (within name (rangeIn word)) (cond there next other))
     sees word = class-is late here there name (nameIn word) (lowIn word) (highIn word)
 
-    turn-states : map Num.stateOf (turnOf g name (seenIn late here there) st .states) ≡ moves (f .join) cl (st .count) (f .ranges) (map Num.stateOf (st .states))
+    turn-states : map Num.stateOf (turnOf g name (seenIn late here there) (st .states) (st .count) .states) ≡ moves (f .join) cl (st .count) (f .ranges) (map Num.stateOf (st .states))
     unfolding turnOf
     turn-states = moves-are g name (seenIn late here there) (st .count) cl sees (g .size) 0 (st .states) fits ∙ rw (hf .join, hf .ranges)
 
-    turn-bad : turnOf g name (seenIn late here there) st .bad ≡ erred (slots (f .ranges) (moves (f .join) cl (st .count) (f .ranges) (map Num.stateOf (st .states))))
+    turn-bad : turnOf g name (seenIn late here there) (st .states) (st .count) .bad ≡ erred (slots (f .ranges) (moves (f .join) cl (st .count) (f .ranges) (map Num.stateOf (st .states))))
     unfolding turnOf
     turn-bad = bad-is g name (seenIn late here there) (st .count) cl sees (st .states) fits ∙ rw (hf .join, hf .ranges)
 
-    turn-idle : turnOf g name (seenIn late here there) st .idle ≡ allOf (λ (y : Slot). isIdle (y .state)) (slots (f .ranges) (moves (f .join) cl (st .count) (f .ranges) (map Num.stateOf (st .states))))
+    turn-idle : turnOf g name (seenIn late here there) (st .states) (st .count) .idle ≡ allOf (λ (y : Slot). isIdle (y .state)) (slots (f .ranges) (moves (f .join) cl (st .count) (f .ranges) (map Num.stateOf (st .states))))
     unfolding turnOf
     turn-idle = idle-is g name (seenIn late here there) (st .count) cl sees (st .states) fits ∙ rw (hf .join, hf .ranges)
 
-    turn-count : turnOf g name (seenIn late here there) st .count ≡ cond late (st .count) (counts name (st .count) (slots (f .ranges) (map Num.stateOf (st .states))))
+    turn-count : turnOf g name (seenIn late here there) (st .states) (st .count) .count ≡ cond late (st .count) (counts name (st .count) (slots (f .ranges) (map Num.stateOf (st .states))))
     unfolding turnOf
     turn-count = look late here refl here-is
       where
@@ -333,7 +334,7 @@ module _ {fragments names ranges : List ℕ} {r : ℕ} {p : Plan} {rule : Rule} 
         look false q = leb-false (length (roundOf rule)) (suc (st .fragment)) q
 
     abbrev turned : Turned
-    turned = turnOf (G (st .fragment)) name (seenIn (late rule S E) (has rule (st .fragment) name) (has rule (following rule (st .fragment)) name)) st
+    turned = turnOf (G (st .fragment)) name (seenIn (late rule S E) (has rule (st .fragment) name) (has rule (following rule (st .fragment)) name)) (st .states) (st .count)
 
     -- what the code computes, in the model's tests
     act-is : actOf fragments names ranges r p st name time ≡ cond (released rule S) (record { state = st; standing = 0 }) (cond (not (has rule (st .fragment) name) && turned .idle) (beginOf (G (following rule (st .fragment))) p (following rule (st .fragment)) (st .end) name time) (stayOf (G (st .fragment)) p st (st .fragment) turned time))

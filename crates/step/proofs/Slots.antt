@@ -2,7 +2,7 @@
 -- Assumes nothing.
 use mathlib.Core.Path.{_≡_, refl, sym, _∙_, ap, ap₂, subst}
 use mathlib.Core.Logic.{inl, inr}
-use mathlib.Core.Bool.{Bool, true, false, cond, not, _&&_, _||_, and-true, and-assoc, or-assoc, or-false}
+use mathlib.Core.Bool.{Bool, true, false, cond, _&&_, _||_, and-true, and-assoc, or-assoc, or-false}
 use mathlib.Core.List.{List, [], _∷_, map}
 use Prim.Native.Nat.{ℕ, zero, suc, _+_, _≤_}
 use native.Mathlib.Nat.{not-suc-le-zero}
@@ -17,9 +17,9 @@ use Rattle.pattern.specs.Recogniser.{State, idle, unbegun, waiting, counting, d
 use Rattle.pattern.specs.Numbers.{stateNumber, stateOf, joinOf, bounds, nextState}
 use Rattle.pattern.specs.Numbers as Num
 use Rattle.pattern.proofs.Numbers.{state-back}
-use Rattle.book.specs.Words.{nameIn, lowIn, highIn}
-use Rattle.step.specs.Upto.{mapN, foldN}
-use Rattle.step.specs.Steps.{Ranges, wordAt, classAt, countAt, classOf, moveOf, badOf, idleOf, countOf, begunAt, begunOf, unbegunOf, closesAt, takesAt, closesOf, takesOf}
+use Rattle.tables.specs.Words.{nameIn, lowIn, highIn}
+use Rattle.fragment.specs.Upto.{mapN, foldN}
+use Rattle.fragment.specs.Fragments.{Ranges, wordAt, classAt, countAt, classOf, moveOf, badOf, idleOf, countOf, begunAt, begunOf, unbegunOf, closesAt, takesAt, closesOf, takesOf}
 use Rattle.step.specs.Decode.{rangeIn, rangesFrom}
 
 -- ---- one range

@@ -6,7 +6,7 @@ use Prim.Native.Nat.{ℕ, _≤_}
 use lib.ListN.{length}
 use borrow.Author.Tests.{lt-leb}
 use Rattle.pattern.proofs.Basics.{zero-one}
-use Rattle.pattern.specs.Meaning.{Kind, once, repeated, timed, Rule, broken, whole, open′}
+use Rattle.pattern.specs.Meaning.{Kind, once, repeated, timed, Rule, broken, open′}
 use Rattle.pattern.specs.Recogniser.{erred, complete}
 use Rattle.pattern.specs.Model.{RuleState, inTime, isLast, afterP, slotsOf, joinOf, atRest, pressed, statusAt}
 

@@ -11,10 +11,11 @@ use Rattle.pattern.specs.Model.{roundOf, fragmentAt}
 use Rattle.pattern.specs.Model as M
 use Rattle.pattern.specs.Numbers.{stateOf, joinOf}
 use Rattle.layout.specs.Layout.{kindNumber, timeOf}
-use Rattle.book.specs.Words.{nameIn, lowIn, highIn}
+use Rattle.tables.specs.Words.{nameIn, lowIn, highIn}
 use Rattle.step.specs.declared.RuleState.{RuleState}
 use Rattle.step.specs.declared.Plan.{Plan}
-use Rattle.step.specs.Steps.{Ranges, wordAt, rangesOf}
+use Rattle.fragment.specs.Fragments.{Ranges, wordAt}
+use Rattle.step.specs.Steps.{rangesOf}
 
 -- a rule's state
 abbrev pub decode : RuleState → M.RuleState

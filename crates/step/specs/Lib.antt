@@ -1,3 +1,2 @@
-pub mod Upto
 pub mod Steps
 pub mod Decode

@@ -1,15 +1,13 @@
 // One rule of a book at an event (document 01, "The recogniser of a range"): the rule's state by value, the book's arrays lent by reference.
 // An index that comes from a table or a state is reduced by a remainder, so that nothing is asked of either.
 ghost use mathlib.Core.Path.{_≡_};
-ghost use mathlib.Core.Bool.{cond, false, not, _&&_, _||_};
+ghost use mathlib.Core.Bool.{false, not, _&&_};
 ghost use Prim.Native.Nat.{_+_, _*_, _%_, _<_, _≤_};
 ghost use lib.Dec.{leb, eqb};
 ghost use lib.ListN.{getD};
 ghost use Rattle.names.specs.Names.{member};
-ghost use Rattle.pattern.specs.Numbers.{stateNumber, joinOf, bounds};
-ghost use Rattle.pattern.specs.Entries.{entryState, entryIn};
-ghost use Rattle.book.specs.Words.{lowIn, highIn};
-ghost use Rattle.step.specs.Steps.{classAt, countAt, turnOf, begunAt, begunStates, digits, freshStates, closesAt, takesAt, overAt, allOver, growsOf, completeOf, pastOf, followsOf, endOf, seenOf, dueOf, runsOf, settledOf, planOf, rangesOf, stoodOf, beginOf, stayOf, actOf};
+ghost use Rattle.fragment.specs.Fragments.{turnOf, allOver, growsOf, completeOf};
+ghost use Rattle.step.specs.Steps.{pastOf, followsOf, endOf, seenOf, dueOf, runsOf, settledOf, planOf, rangesOf, stoodOf, beginOf, stayOf, actOf};
 
 // "The monitor's state holds, for each rule, its fragment number, eight recogniser states, one count and the end time of P."
 pub struct RuleState {
@@ -27,14 +25,6 @@ pub struct Plan {
     pub limit: u32,
 }
 
-// A fragment's states and count after an event; whether a range has an error, and whether all are idle.
-pub struct Turned {
-    pub states: [u8; 8],
-    pub count: u16,
-    pub bad: bool,
-    pub idle: bool,
-}
-
 // A rule's state after an event, and how the rule stands: 0 whole, 1 open, 2 open and a deadline runs, 3 broken.
 pub struct Stepped {
     pub state: RuleState,
@@ -46,248 +36,6 @@ pub struct Moved {
     pub state: RuleState,
     pub sure: bool,
     pub standing: u8,
-}
-
-// ---- the ranges of a fragment
-
-// How a range sees an event that its fragment has seen so: only its own name is its own.
-fn class_of(seen: u8, name: u8, own: u8) -> u8
-    ensures { λ r. ⌜ r ≡ classAt seen name own ⌝ }
-{
-    if seen == 1 {
-        if name == own {
-            return 0;
-        }
-    }
-    seen
-}
-
-// The column of moves for this class, of the two that a fragment needs: that of its own events, and that of an event that it has seen so.
-fn column_of(class: u8, own: u32, other: u32) -> u32
-    ensures { λ r. ⌜ r ≡ cond (eqb class 0) own other ⌝ }
-{
-    if class == 0 {
-        return own;
-    }
-    other
-}
-
-// The state after an event of this column, for a range in state s. The bounds are taken out of the range's word only where a move has a condition.
-fn moved_by(column: u32, s: u8, join: u8, count: u16, word: u64) -> u8
-    ensures { λ r. ⌜ r ≡ stateNumber (entryState (joinOf join) (bounds (lowIn word) (highIn word)) count (entryIn column s)) ⌝ }
-{
-    let entry = pattern::entry(column, s);
-    if entry <= 5 {
-        return entry;
-    }
-    pattern::decided(entry, join, count, book::low(word), book::high(word))
-}
-
-// The count after an event of this class, where a range was in state s; kept is the count of the ranges before it.
-fn counted(class: u8, s: u8, count: u16, v: u16, kept: u16) -> u16
-    ensures { λ r. ⌜ r ≡ countAt class s count v kept ⌝ }
-{
-    if class != 0 {
-        return kept;
-    }
-    if s != 3 {
-        return 1;
-    }
-    if count < v {
-        return count + 1;
-    }
-    count
-}
-
-fn or(a: bool, b: bool) -> bool
-    ensures { λ r. ⌜ r ≡ (a || b) ⌝ }
-{
-    if a {
-        return true;
-    }
-    b
-}
-
-fn and(a: bool, b: bool) -> bool
-    ensures { λ r. ⌜ r ≡ (a && b) ⌝ }
-{
-    if a {
-        return b;
-    }
-    false
-}
-
-// One event moves every range of the fragment. The columns of the table are looked up once for all of them. Whether all are idle is part of it; no code reads that, as `all_over` tells it without a move.
-fn turn(
-    ranges: &[u64; 2048],
-    base: usize,
-    size: usize,
-    join: u8,
-    st: RuleState,
-    name: u8,
-    seen: u8,
-) -> Turned
-    requires { ⌜ (base ≤ 2040) × (size ≤ 8) ⌝ }
-    ensures { λ r. ⌜ r ≡ turnOf (record { words = now (ranges .entry); base = base; size = size; join = join }) name seen st ⌝ }
-{
-    let old = st.states;
-    let mut x = old;
-    let mut count = st.count;
-    let mut bad = false;
-    let mut idle = true;
-    let own = pattern::column(0);
-    let other = pattern::column(seen);
-    let mut i = 0usize;
-    while i < size {
-        let word = ranges[base + i];
-        let class = class_of(seen, name, book::name(word));
-        let y = moved_by(column_of(class, own, other), old[i], join, st.count, word);
-        count = counted(class, old[i], st.count, book::high(word), count);
-        bad = or(bad, y == 5);
-        idle = and(idle, y == 0);
-        x[i] = y;
-        i = i + 1;
-    }
-    Turned {
-        states: x,
-        count: count,
-        bad: bad,
-        idle: idle,
-    }
-}
-
-fn begun(name: u8, own: u8) -> u8
-    ensures { λ r. ⌜ r ≡ begunAt name own ⌝ }
-{
-    if name == own {
-        return 3;
-    }
-    2
-}
-
-// Eight states from one word, the first from its lowest byte.
-pub fn spread(word: u64) -> [u8; 8]
-    ensures { λ r. ⌜ r ≡ digits 8 word ⌝ }
-{
-    let w1 = word / 256;
-    let w2 = w1 / 256;
-    let w3 = w2 / 256;
-    let w4 = w3 / 256;
-    let w5 = w4 / 256;
-    let w6 = w5 / 256;
-    let w7 = w6 / 256;
-    [
-        (word % 256) as u8,
-        (w1 % 256) as u8,
-        (w2 % 256) as u8,
-        (w3 % 256) as u8,
-        (w4 % 256) as u8,
-        (w5 % 256) as u8,
-        (w6 % 256) as u8,
-        (w7 % 256) as u8,
-    ]
-}
-
-// The states after the first event of a fragment. From the last range to the first they are put into one word: that costs less than an array written byte by byte.
-fn begun_states(ranges: &[u64; 2048], base: usize, size: usize, join: u8, name: u8) -> [u8; 8]
-    requires { ⌜ (base ≤ 2040) × (size ≤ 8) ⌝ }
-    ensures { λ r. ⌜ r ≡ begunStates (record { words = now (ranges .entry); base = base; size = size; join = join }) name ⌝ }
-{
-    let mut word = 0u64;
-    let mut i = size;
-    while 0 < i {
-        i = i - 1;
-        word = 256 * word + begun(name, book::name(ranges[base + i])) as u64;
-    }
-    spread(word)
-}
-
-// The states where no event of the fragment has come: eight at most, whatever the number.
-pub fn fresh_states(size: usize) -> [u8; 8]
-    ensures { λ r. ⌜ r ≡ freshStates size ⌝ }
-{
-    if 8 < size {
-        return [1u8; 8];
-    }
-    let mut x = [0u8; 8];
-    let mut i = 0usize;
-    while i < size {
-        x[i] = 1;
-        i = i + 1;
-    }
-    x
-}
-
-// Waiting, where a range that has not occurred may be left out ("0 if any, 5 if all"); else idle, which *next* is no error to anyway.
-fn left_out(join: u8) -> u8
-    ensures { λ r. ⌜ r ≡ cond (eqb join 0) 0 2 ⌝ }
-{
-    if join == 0 {
-        return 0;
-    }
-    2
-}
-
-// *next* is no error to a range in state s.
-fn closes(s: u8, join: u8, count: u16, u: u16) -> bool
-    ensures { λ r. ⌜ r ≡ closesAt s join count u ⌝ }
-{
-    if s == 3 {
-        return u <= count;
-    }
-    if s == left_out(join) {
-        return true;
-    }
-    or(s == 0, s == 4)
-}
-
-// An event of its own is no error to a range in state s: it can take one more.
-fn takes(s: u8, count: u16, v: u16) -> bool
-    ensures { λ r. ⌜ r ≡ takesAt s count v ⌝ }
-{
-    if s == 3 {
-        return count < v;
-    }
-    or(s == 1, s == 2)
-}
-
-// A range in state s is over, asked by a class of events: *next* (2) or *other* (3) leaves it idle; *own* (0) is an error to it.
-fn over(class: u8, s: u8, join: u8, count: u16, word: u64) -> bool
-    ensures { λ r. ⌜ r ≡ overAt class s join count word ⌝ }
-{
-    if class == 0 {
-        return !takes(s, count, book::high(word));
-    }
-    if s == 0 {
-        return true;
-    }
-    if class == 2 {
-        return closes(s, join, count, book::low(word));
-    }
-    false
-}
-
-// Every range is over. By 2 the fragment is complete and may be followed; by 0 it cannot take one more event. By 2 and 3 all become idle, and none is moved to tell that. The first that is not over ends the search.
-fn all_over(
-    ranges: &[u64; 2048],
-    base: usize,
-    size: usize,
-    join: u8,
-    states: [u8; 8],
-    count: u16,
-    class: u8,
-) -> bool
-    requires { ⌜ (base ≤ 2040) × (size ≤ 8) ⌝ }
-    ensures { λ r. ⌜ r ≡ allOver (record { words = now (ranges .entry); base = base; size = size; join = join }) class states count ⌝ }
-{
-    let mut i = 0usize;
-    while i < size {
-        if !over(class, states[i], join, count, ranges[base + i]) {
-            return false;
-        }
-        i = i + 1;
-    }
-    true
 }
 
 // ---- time
@@ -390,8 +138,8 @@ fn runs(ranges: &[u64; 2048], base: usize, size: usize, join: u8, p: Plan, st: R
         return false;
     }
     let states = st.states;
-    if all_over(ranges, base, size, join, states, st.count, 2) {
-        return all_over(ranges, base, size, join, states, st.count, 0);
+    if fragment::all_over(ranges, base, size, join, states, st.count, 2) {
+        return fragment::all_over(ranges, base, size, join, states, st.count, 0);
     }
     false
 }
@@ -403,7 +151,7 @@ fn whole(ranges: &[u64; 2048], base: usize, size: usize, join: u8, p: Plan, st: 
 {
     if p.last <= st.fragment + 1 {
         let states = st.states;
-        return all_over(ranges, base, size, join, states, st.count, 2);
+        return fragment::all_over(ranges, base, size, join, states, st.count, 2);
     }
     false
 }
@@ -470,7 +218,7 @@ fn begins(
             standing: 0,
         };
     }
-    let x = begun_states(ranges, base, size, join, name);
+    let x = fragment::begun_states(ranges, base, size, join, name);
     Moved {
         state: RuleState {
             fragment: f,
@@ -497,9 +245,10 @@ fn stays(
     time: u32,
 ) -> Moved
     requires { ⌜ (base ≤ 2040) × (size ≤ 8) ⌝ }
-    ensures { λ r. ⌜ (r .state .fragment ≡ f) × (stoodOf (record { words = now (ranges .entry); base = base; size = size; join = join }) p r time ≡ stayOf (record { words = now (ranges .entry); base = base; size = size; join = join }) p st f (turnOf (record { words = now (ranges .entry); base = base; size = size; join = join }) name seen st) time) ⌝ }
+    ensures { λ r. ⌜ (r .state .fragment ≡ f) × (stoodOf (record { words = now (ranges .entry); base = base; size = size; join = join }) p r time ≡ stayOf (record { words = now (ranges .entry); base = base; size = size; join = join }) p st f (turnOf (record { words = now (ranges .entry); base = base; size = size; join = join }) name seen (st .states) (st .count)) time) ⌝ }
 {
-    let x = turn(ranges, base, size, join, st, name, seen);
+    let old = st.states;
+    let x = fragment::turn(ranges, base, size, join, old, st.count, name, seen);
     let states = x.states;
     Moved {
         state: RuleState {
@@ -517,10 +266,10 @@ pub fn plan_of(head: u64) -> Plan
     ensures { λ r. ⌜ r ≡ planOf head ⌝ }
 {
     Plan {
-        kind: book::kind(head),
-        first: book::fragments_in_p(head),
-        last: book::fragments_in_round(head),
-        limit: book::time(head),
+        kind: tables::kind(head),
+        first: tables::fragments_in_p(head),
+        last: tables::fragments_in_round(head),
+        limit: tables::time(head),
     }
 }
 
@@ -541,7 +290,7 @@ fn passes(
         return false;
     }
     let states = st.states;
-    all_over(ranges, base, size, join, states, st.count, seen)
+    fragment::all_over(ranges, base, size, join, states, st.count, seen)
 }
 
 // An event on one of the names of a rule that is not released.
@@ -561,8 +310,8 @@ fn moves<'a>(
     let f = st.fragment % 16;
     let k = 16 * rule + f as usize;
     let word = fragments[k];
-    let size = book::ranges_in(word) as usize;
-    let join = book::join(word);
+    let size = tables::ranges_in(word) as usize;
+    let join = tables::join(word);
     let here = names::has(names[k], name);
     let how = seen(names, rule, p, f, here, name, st.end, time);
     if passes(ranges, 8 * k, size, join, st, here, how) {
@@ -572,8 +321,8 @@ fn moves<'a>(
         return begins(
             ranges,
             8 * n,
-            book::ranges_in(w) as usize,
-            book::join(w),
+            tables::ranges_in(w) as usize,
+            tables::join(w),
             p,
             next,
             st.end,
@@ -614,8 +363,8 @@ pub fn act<'a>(
     }
     let k = 16 * rule + o.fragment as usize;
     let word = fragments[k];
-    let size = book::ranges_in(word) as usize;
-    let s = standing(ranges, 8 * k, size, book::join(word), p, o, time);
+    let size = tables::ranges_in(word) as usize;
+    let s = standing(ranges, 8 * k, size, tables::join(word), p, o, time);
     Stepped {
         state: o,
         standing: s,

@@ -6,8 +6,8 @@ use mathlib.Core.List.{List}
 use Prim.Native.Nat.{ℕ, _+_, _*_, _/_, _%_, _≤_}
 use lib.ListN.{length, getD, set, replicate}
 use Rattle.step.specs.declared.RuleState.{RuleState}
-use Rattle.step.specs.Upto.{mapN}
-use Rattle.step.specs.Steps.{zeros, digits}
+use Rattle.fragment.specs.Upto.{mapN}
+use Rattle.fragment.specs.Fragments.{zeros, digits}
 
 -- ---- a rule's two words
 

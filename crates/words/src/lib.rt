@@ -34,7 +34,7 @@ fn place_word(fragment: u8, count: u16, end: u32) -> u64
 fn state_in(states: u64, place: u64) -> RuleState
     ensures { λ r. ⌜ r ≡ stateIn states place ⌝ }
 {
-    let x = step::spread(states);
+    let x = fragment::spread(states);
     RuleState {
         fragment: (place % 256) as u8,
         states: x,

@@ -4,9 +4,10 @@ use mathlib.Core.List.{List}
 use Prim.Native.Nat.{ℕ, _-_, _*_, _≤_}
 use native.Mathlib.Omega.{arith}
 use lib.ListN.{getD}
-use Rattle.book.specs.Words.{countIn}
+use Rattle.tables.specs.Words.{countIn}
 use Rattle.book.specs.Tables.{namesFrom, fragmentSet}
-use Rattle.book.proofs.Steps.{names-more, count-small}
+use Rattle.tables.proofs.Bounds.{count-small}
+use Rattle.book.proofs.Steps.{names-more}
 use borrow.Author.Needs.{needs}
 use Rattle.book.proofs.fragment_set.Statement.{statement}
 use Rattle.book.proofs.fragment_set.Tie as tie

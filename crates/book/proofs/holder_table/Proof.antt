@@ -4,9 +4,10 @@ use mathlib.Core.List.{List}
 use Prim.Native.Nat.{ℕ, _-_, _≤_}
 use native.Mathlib.Omega.{arith}
 use lib.ListN.{replicate}
-use Rattle.book.specs.Words.{cap}
+use Rattle.tables.specs.Words.{cap}
 use Rattle.book.specs.Tables.{stored, maskOf, holderTable}
-use Rattle.book.proofs.Steps.{stored-more, cap-small}
+use Rattle.tables.proofs.Bounds.{cap-small}
+use Rattle.book.proofs.Steps.{stored-more}
 use borrow.Author.Needs.{needs}
 use Rattle.book.proofs.holder_table.Statement.{statement}
 use Rattle.book.proofs.holder_table.Tie as tie

@@ -4,9 +4,10 @@ use mathlib.Core.List.{List}
 use Prim.Native.Nat.{ℕ, _-_, _*_, _≤_}
 use native.Mathlib.Omega.{arith}
 use lib.ListN.{getD}
-use Rattle.book.specs.Words.{roundIn}
+use Rattle.tables.specs.Words.{roundIn}
 use Rattle.book.specs.Tables.{unionFrom, ruleSet}
-use Rattle.book.proofs.Steps.{union-more, round-small}
+use Rattle.tables.proofs.Bounds.{round-small}
+use Rattle.book.proofs.Steps.{union-more}
 use borrow.Author.Needs.{needs}
 use Rattle.book.proofs.rule_set.Statement.{statement}
 use Rattle.book.proofs.rule_set.Tie as tie

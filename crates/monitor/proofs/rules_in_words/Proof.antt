@@ -6,7 +6,7 @@ use native.Mathlib.Omega.{arith}
 use lib.ListN.{length, getD, set, replicate}
 use lib.Seq.{ext-getD}
 use Rattle.step.specs.declared.RuleState.{RuleState}
-use Rattle.step.specs.Upto.{mapN, mapN-more, length-mapN}
+use Rattle.fragment.specs.Upto.{mapN, mapN-more, length-mapN}
 use Rattle.words.specs.Words.{stateIn, noState, rulesIn}
 use Rattle.words.proofs.Places.{getD-any, getD-mapN}
 use borrow.Author.Needs.{needs}

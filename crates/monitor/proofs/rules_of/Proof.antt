@@ -6,7 +6,7 @@ use native.Mathlib.Omega.{arith}
 use denote.Ref.{now}
 use lib.ListN.{length, replicate}
 use Rattle.step.specs.declared.RuleState.{RuleState}
-use Rattle.step.specs.Upto.{mapN, mapN-more}
+use Rattle.fragment.specs.Upto.{mapN, mapN-more}
 use Rattle.words.specs.Words.{noState, ruleFrom, rulesIn}
 use Rattle.words.proofs.Laws.{rule-at}
 use borrow.Author.Needs.{needs}

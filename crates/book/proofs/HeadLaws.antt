@@ -1,0 +1,63 @@
+-- A rule's head: what it holds is read off the number of a well-formed rule.
+-- Assumes nothing.
+use mathlib.Core.Path.{_≡_, sym}
+use mathlib.Core.List.{List, [], _∷_, _++_}
+use Prim.Native.Nat.{ℕ, _+_, _*_, _<_}
+use native.Mathlib.Omega.{arith}
+use lib.ListN.{length, length-append}
+use Rattle.pattern.specs.Meaning.{Fragment, Kind, once, repeated, timed, Rule, WellFormed}
+use Rattle.pattern.specs.Model.{triggerFragment, lastFragments, roundOf}
+use Rattle.layout.specs.Layout.{headerOf, kindNumber, inQ, triggerOf, timeOf}
+use Rattle.layout.specs.Reading.{byKind}
+use Rattle.layout.specs.Pages.{headerWord}
+use Rattle.layout.proofs.PageLaws.{round-few}
+use Rattle.tables.specs.Words.{kindIn, countPIn, countQIn, triggerIn, timeIn, roundIn}
+use Rattle.tables.proofs.Bounds.{cap-of}
+use Rattle.book.specs.Looks.{LooksHead}
+
+-- ---- numbers
+
+-- five fields of one number
+record Fields (k p q i t : ℕ) : Type 0 where
+  kind : kindIn (k + 256 * (p + 256 * (q + 256 * (i + 256 * t)))) ≡ k
+  countP : countPIn (k + 256 * (p + 256 * (q + 256 * (i + 256 * t)))) ≡ p
+  countQ : countQIn (k + 256 * (p + 256 * (q + 256 * (i + 256 * t)))) ≡ q
+  trigger : triggerIn (k + 256 * (p + 256 * (q + 256 * (i + 256 * t)))) ≡ i
+  time : timeIn (k + 256 * (p + 256 * (q + 256 * (i + 256 * t)))) ≡ t
+
+fields : (k p q i t : ℕ) → k < 256 → p < 256 → q < 256 → i < 256 → t < 4294967296 → Fields k p q i t
+fields k p q i t hk hp hq hi ht = record { kind = omega arith; countP = omega arith; countQ = omega arith; trigger = omega arith; time = omega arith }
+
+-- ---- a rule's head
+
+record Small (K : Kind) (p : List Fragment) : Type 0 where
+  kind : kindNumber K < 256
+  countP : length p < 256
+  countQ : length (inQ K) < 256
+  trigger : triggerOf K < 256
+  time : timeOf K < 4294967296
+
+small : (K : Kind) (p : List Fragment) → WellFormed (record { kind = K; p = p }) → Small K p
+small (once i) p w = record { kind = omega arith; countP = omega (arith, w .p .count); countQ = omega arith; trigger = omega (arith, w .kind); time = omega arith }
+small (repeated i) p w = record { kind = omega arith; countP = omega (arith, w .p .count); countQ = omega arith; trigger = omega (arith, w .kind); time = omega arith }
+small (timed q t) p w = record { kind = omega arith; countP = omega (arith, w .p .count); countQ = omega (arith, w .kind .0 .count); trigger = omega arith; time = omega (arith, w .kind .1) }
+
+round-length : (K : Kind) (p : List Fragment) → length p + byKind (kindNumber K) (length (inQ K)) 1 ≡ length (p ++ lastFragments K)
+round-length (once i) p = sym (length-append p (triggerFragment i ∷ []))
+round-length (repeated i) p = sym (length-append p (triggerFragment i ∷ []))
+round-length (timed q t) p = sym (length-append p q)
+
+pub looks-head : (r : Rule) → WellFormed r → LooksHead (headerWord (headerOf r)) r
+unfolding roundIn
+looks-head r w =
+    let K : Kind = r .kind in
+    let s = small (r .kind) (r .p) w in
+    let f = fields (kindNumber (r .kind)) (length (r .p)) (length (inQ (r .kind))) (triggerOf (r .kind)) (timeOf (r .kind)) (s .kind) (s .countP) (s .countQ) (s .trigger) (s .time) in
+    record {
+      kind = f .kind;
+      countP = f .countP;
+      countQ = f .countQ;
+      trigger = f .trigger;
+      time = f .time;
+      round = rw (f .countP, f .kind, f .countQ, round-length (r .kind) (r .p)) (cap-of 16 (length (roundOf r)) (round-few r w));
+    }

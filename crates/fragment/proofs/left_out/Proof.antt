@@ -1,0 +1,13 @@
+-- `fragment::left_out` meets its contract: at each return the test is as there. Assumes nothing.
+use borrow.Author.Tests.{eq-eqb, ne-eqb}
+use Rattle.fragment.proofs.left_out.Statement.{statement}
+use Rattle.fragment.proofs.left_out.Tie as tie
+
+returns : tie.Need-returns
+returns c = simp (eq-eqb _ _ (c .if1 .taken))
+
+returns-2 : tie.Need-returns-2
+returns-2 c = simp (ne-eqb _ _ (c .if1 .left))
+
+pub left-out-spec : {M : Type 1} → statement M
+left-out-spec = tie.close (tie.spec returns returns-2)

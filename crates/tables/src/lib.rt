@@ -1,0 +1,97 @@
+// What a number of a book's tables holds (document 01): a rule's eight bytes, a fragment's join and count of ranges, a range's name and bounds.
+ghost use mathlib.Core.Path.{_≡_};
+ghost use mathlib.Core.Bool.{cond};
+ghost use lib.Dec.{eqb};
+ghost use Rattle.tables.specs.Words.{kindIn, countPIn, countQIn, triggerIn, timeIn, roundIn, joinIn, countIn, nameIn, lowIn, highIn};
+
+// ---- a rule's head
+
+pub fn kind(head: u64) -> u8
+    ensures { λ r. ⌜ r ≡ kindIn head ⌝ }
+{
+    (head % 256) as u8
+}
+
+pub fn fragments_in_p(head: u64) -> u8
+    ensures { λ r. ⌜ r ≡ countPIn head ⌝ }
+{
+    (head / 256 % 256) as u8
+}
+
+pub fn fragments_in_q(head: u64) -> u8
+    ensures { λ r. ⌜ r ≡ countQIn head ⌝ }
+{
+    (head / 65536 % 256) as u8
+}
+
+pub fn trigger(head: u64) -> u8
+    ensures { λ r. ⌜ r ≡ triggerIn head ⌝ }
+{
+    (head / 16777216 % 256) as u8
+}
+
+pub fn time(head: u64) -> u32
+    ensures { λ r. ⌜ r ≡ timeIn head ⌝ }
+{
+    (head / 4294967296 % 4294967296) as u32
+}
+
+// Fragments in the round.
+pub fn fragments_in_round(head: u64) -> u8
+    ensures { λ r. ⌜ r ≡ roundIn head ⌝ }
+{
+    let p = fragments_in_p(head) as u64;
+    let last = fragments_last(head) as u64;
+    if 16 < p + last {
+        return 16;
+    }
+    (p + last) as u8
+}
+
+// Fragments in the round after P: Q's, or the trigger's one.
+fn fragments_last(head: u64) -> u8
+    ensures { λ r. ⌜ r ≡ cond (eqb (kindIn head) 2) (countQIn head) 1 ⌝ }
+{
+    if kind(head) == 2 {
+        return fragments_in_q(head);
+    }
+    1
+}
+
+// ---- a fragment's word
+
+pub fn join(word: u16) -> u8
+    ensures { λ r. ⌜ r ≡ joinIn word ⌝ }
+{
+    (word % 256) as u8
+}
+
+pub fn ranges_in(word: u16) -> u8
+    ensures { λ r. ⌜ r ≡ countIn word ⌝ }
+{
+    let n = word / 256;
+    if 8 < n {
+        return 8;
+    }
+    n as u8
+}
+
+// ---- a range's word
+
+pub fn name(word: u64) -> u8
+    ensures { λ r. ⌜ r ≡ nameIn word ⌝ }
+{
+    (word % 64) as u8
+}
+
+pub fn low(word: u64) -> u16
+    ensures { λ r. ⌜ r ≡ lowIn word ⌝ }
+{
+    (word / 256 % 65536) as u16
+}
+
+pub fn high(word: u64) -> u16
+    ensures { λ r. ⌜ r ≡ highIn word ⌝ }
+{
+    (word / 16777216 % 65536) as u16
+}
