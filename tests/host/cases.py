@@ -136,12 +136,12 @@ def told(word):
 
 
 def stored_cases(met):
-    """The traces that tests/traces/make.py has stored, with their lines. The call is made with no log."""
+    """The traces that tests/traces/make.py has stored, with their lines, of which each stands there twice. The call is made with no log."""
     folder = os.path.join(ROOT, "crates", "replay")
     with open(os.path.join(folder, "stdin"), "rb") as f:
         data = f.read()
     with open(os.path.join(folder, "stdout")) as f:
-        lines = f.read().splitlines()
+        lines = f.read().splitlines()[::2]
     at = 0
     for line in lines:
         before, size, count = struct.unpack_from("<IHH", data, at)
