@@ -69,7 +69,7 @@ module _ (S T : Sheet) (b : Book) (ls : Looks S b) (lt : Looks T b) where
     rule-same =
         let x = ls .head r hs in
         let y = lt .head r ht in
-        let l : length (roundOf (ruleAt (S .rules) r)) ≡ length (roundOf (ruleAt (T .rules) r)) = sym (x .round) ∙ y .round in
+        let l : length (roundOf (ruleAt (S .rules) r)) ≡ length (roundOf (ruleAt (T .rules) r)) = sym (x .last) ∙ y .last in
         same-rule (ruleAt (S .rules) r) (ruleAt (T .rules) r) (sym (x .kind) ∙ y .kind) (sym (x .trigger) ∙ y .trigger) (sym (x .time) ∙ y .time) (sym (x .countP) ∙ y .countP)
         (ext-getD noFragment _ _ l (λ f h. fragment-same f h (subst (λ (n : ℕ). f < n) l h)))
 

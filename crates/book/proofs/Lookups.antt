@@ -16,12 +16,12 @@ use Rattle.names.specs.Names.{member}
 use Rattle.layout.specs.Layout.{Sheet, WellFormedRule, WellFormedSheet}
 use Rattle.layout.specs.Pages.{fragmentWord, rangeWord, headTable, fragmentTable, rangeTable, noRange, noRule, ruleAt, rangeAt}
 use Rattle.layout.proofs.PageLaws.{head-at, fragment-at, range-at, round-formed, round-few, each-at}
-use Rattle.tables.specs.Words.{cap, nameIn, countIn}
-use Rattle.book.specs.Tables.{fragmentSet, nameTable, ruleSet, ruleTable, maskOf, holderTable, namesFrom, unionFrom}
+use Rattle.tables.specs.Words.{roundIn, cap, nameIn, countIn}
+use Rattle.book.specs.Tables.{keptHead, headsKept, fragmentSet, nameTable, ruleSet, ruleTable, maskOf, holderTable, namesFrom, unionFrom}
 use Rattle.book.specs.Books.{bookOf}
 use Rattle.book.specs.Looks.{LooksHead, LooksFragment, LooksRange, Looks}
 use Rattle.tables.proofs.WordLaws.{join-in, count-in, name-in, low-in, high-in}
-use Rattle.book.proofs.HeadLaws.{looks-head}
+use Rattle.book.proofs.HeadLaws.{head-round, looks-head}
 use Rattle.book.proofs.SetLaws.{stored-at, round-names, member-names, member-union, member-mask}
 
 module _ (S : Sheet) (formed : WellFormedSheet S) where
@@ -32,8 +32,12 @@ module _ (S : Sheet) (formed : WellFormedSheet S) where
     few : r < 16
     few = omega (arith, here, formed .count)
 
-    pub head : LooksHead (getD (headTable (S .rules)) r 0) (ruleAt (S .rules) r)
-    head = rw (head-at (S .rules) r here few) (looks-head (ruleAt (S .rules) r) rule-formed)
+    round : roundIn (getD (headTable (S .rules)) r 0) ≡ length (roundOf (ruleAt (S .rules) r))
+    round = rw (head-at (S .rules) r here few) (head-round (ruleAt (S .rules) r) rule-formed)
+
+    pub head : LooksHead (getD (headsKept (headTable (S .rules))) r 0) (ruleAt (S .rules) r)
+    unfolding headsKept
+    head = rw (stored-at (λ i. keptHead (getD (headTable (S .rules)) i 0)) 16 (replicate 16 0) r few (omega arith), head-at (S .rules) r here few) (looks-head (ruleAt (S .rules) r) rule-formed)
 
     module _ (f : ℕ) (inside : f < length (roundOf (ruleAt (S .rules) r))) where
       fragment-formed : WellFormedFragment (fragmentAt (ruleAt (S .rules) r) f)
@@ -91,7 +95,7 @@ module _ (S : Sheet) (formed : WellFormedSheet S) where
         let heads : List ℕ = headTable (S .rules) in
         let fs : List Fragment = roundOf (ruleAt (S .rules) r) in
         ap (λ (w : ℕ). member w n) (stored-at (ruleSet heads names) 16 (replicate 16 0) r few (omega arith))
-        ∙ ap (λ (k : ℕ). member (unionFrom names (16 * r) k) n) (head .round)
+        ∙ ap (λ (k : ℕ). member (unionFrom names (16 * r) k) n) round
         ∙ member-union names (16 * r) fs n (length fs) (omega arith) (λ i l. fragment-names i l n)
         ∙ ap (λ (l : List Fragment). isIn n (orderingNames l)) (take-all (length fs) fs (omega arith))
         ∙ ap (isIn n) (round-names (ruleAt (S .rules) r))

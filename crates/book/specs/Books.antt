@@ -7,7 +7,7 @@ use Rattle.layout.specs.Layout.{Sheet, version}
 use Rattle.layout.specs.Reading.{accepted, readSheet}
 use Rattle.sheet.specs.Answers.{answerOf, pagesOf}
 use Rattle.sheet.specs.declared.Pages.{Pages}
-use Rattle.book.specs.Tables.{nameTable, ruleTable, holderTable}
+use Rattle.book.specs.Tables.{headsKept, nameTable, ruleTable, holderTable}
 use Rattle.book.specs.declared.Book.{Book}
 use Rattle.book.specs.declared.Translation.{Translation}
 
@@ -17,7 +17,7 @@ bookFrom p = record {
   version = version;
   outputs = p .outputs;
   count = p .count;
-  heads = p .heads;
+  heads = headsKept (p .heads);
   fragments = p .fragments;
   names = nameTable (p .fragments) (p .ranges);
   ranges = p .ranges;

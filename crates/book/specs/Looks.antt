@@ -10,19 +10,18 @@ use Rattle.pattern.specs.Lists.{isIn}
 use Rattle.pattern.specs.Meaning.{fragmentNames, Rule, namesOf}
 use Rattle.pattern.specs.Model.{roundOf, fragmentAt}
 use Rattle.names.specs.Names.{member}
-use Rattle.layout.specs.Layout.{Sheet, joinNumber, kindNumber, inQ, triggerOf, timeOf, version}
+use Rattle.layout.specs.Layout.{Sheet, joinNumber, kindNumber, triggerOf, timeOf, version}
 use Rattle.layout.specs.Pages.{ruleAt, rangeAt}
-use Rattle.tables.specs.Words.{kindIn, countPIn, countQIn, triggerIn, timeIn, roundIn, joinIn, countIn, nameIn, lowIn, highIn}
+use Rattle.tables.specs.Words.{kindIn, countPIn, triggerIn, timeIn, lastIn, joinIn, countIn, nameIn, lowIn, highIn}
 use Rattle.book.specs.declared.Book.{Book}
 
 -- a rule's head
 pub record LooksHead (head : ℕ) (r : Rule) : Type 0 where
   pub kind : kindIn head ≡ kindNumber (r .kind)
   pub countP : countPIn head ≡ length (r .p)
-  pub countQ : countQIn head ≡ length (inQ (r .kind))
   pub trigger : triggerIn head ≡ triggerOf (r .kind)
   pub time : timeIn head ≡ timeOf (r .kind)
-  pub round : roundIn head ≡ length (roundOf r)
+  pub last : lastIn head ≡ length (roundOf r)
 
 -- fragment f of rule r: its word and its names
 pub record LooksFragment (word names : ℕ) (r : Rule) (f : ℕ) : Type 0 where

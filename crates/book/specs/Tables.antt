@@ -3,7 +3,7 @@
 -- Assumes nothing.
 use mathlib.Core.Bool.{cond}
 use mathlib.Core.List.{List}
-use Prim.Native.Nat.{ℕ, zero, suc, _+_, _*_}
+use Prim.Native.Nat.{ℕ, zero, suc, _+_, _*_, _/_, _%_}
 use lib.Bits.{bitOr}
 use lib.ListN.{getD, set, replicate}
 use Rattle.names.specs.Names.{member, insert}
@@ -13,6 +13,15 @@ use Rattle.tables.specs.Words.{cap, roundIn, countIn, nameIn}
 abbrev pub stored : (ℕ → ℕ) → ℕ → List ℕ → List ℕ
 stored f zero table = table
 stored f (suc n) table = set (stored f n table) n (f n)
+
+-- ---- the heads that a book keeps
+
+-- a rule's eight bytes, with the number of fragments in its round in the place of Q's count: a monitor asks for it at each event, and Q's count is what is left of it after P's
+unfoldable pub keptHead : ℕ → ℕ
+keptHead head = head % 65536 + 65536 * roundIn head + 16777216 * (head / 16777216)
+
+unfoldable pub headsKept : List ℕ → List ℕ
+headsKept heads = stored (λ r. keptHead (getD heads r 0)) 16 (replicate 16 0)
 
 -- ---- the names of a fragment
 

@@ -4,8 +4,29 @@ ghost use mathlib.Core.Bool.{cond};
 ghost use Prim.Native.Nat.{_+_, _*_, _<_, _≤_};
 ghost use Rattle.names.specs.Names.{member, insert};
 ghost use Rattle.tables.specs.Words.{cap};
-ghost use Rattle.book.specs.Tables.{fragmentSet, nameTable, ruleSet, ruleTable, maskOf, holderTable};
+ghost use Rattle.book.specs.Tables.{keptHead, headsKept, fragmentSet, nameTable, ruleSet, ruleTable, maskOf, holderTable};
 ghost use Rattle.book.specs.Books.{Translates, bookFrom};
+
+// ---- the heads that a book keeps
+
+// A rule's eight bytes, with the number of fragments in its round in the place of Q's count.
+fn kept_head(head: u64) -> u64
+    ensures { λ r. ⌜ r ≡ keptHead head ⌝ }
+{
+    head % 65536 + 65536 * (tables::fragments_in_round(head) as u64) + 16777216 * (head / 16777216)
+}
+
+fn heads_kept(heads: &[u64; 16]) -> [u64; 16]
+    ensures { λ r. ⌜ r ≡ headsKept (now (heads .entry)) ⌝ }
+{
+    let mut kept = [0u64; 16];
+    let mut r = 0usize;
+    while r < 16 {
+        kept[r] = kept_head(heads[r]);
+        r = r + 1;
+    }
+    kept
+}
 
 // ---- the names of each fragment
 
@@ -122,7 +143,7 @@ pub struct Book {
     pub version: u16,
     pub outputs: u64,
     pub count: u8,
-    // rule r's eight bytes at r
+    // rule r's eight bytes at r, with the number of fragments in its round in the place of Q's count
     pub heads: [u64; 16],
     // fragment f of rule r's round at 16 r + f: join and count of ranges; the set of its names
     pub fragments: [u16; 256],
@@ -148,11 +169,12 @@ fn book_of(pages: sheet::Pages) -> Book
     let names = name_table(&fragments, &ranges);
     let sets = rule_table(&heads, &names);
     let holders = holder_table(&sets, pages.count);
+    let kept = heads_kept(&heads);
     Book {
         version: 1,
         outputs: pages.outputs,
         count: pages.count,
-        heads: heads,
+        heads: kept,
         fragments: fragments,
         names: names,
         ranges: ranges,

@@ -67,7 +67,7 @@ module _ (S : Sheet) (formed : WellFormedSheet S) (b : Book) (looks : Looks S b)
         holds = record {
           kind = h .kind;
           first = h .countP;
-          last = h .round;
+          last = h .last;
           limit = h .time;
           few = round-few rule rule-formed;
           fragment = holds-fragment;

@@ -7,7 +7,7 @@ use Prim.Native.Nat.{ℕ, _+_, _*_, _%_}
 use lib.Dec.{leb, ltb, eqb}
 use lib.ListN.{getD}
 use Rattle.names.specs.Names.{member}
-use Rattle.tables.specs.Words.{kindIn, countPIn, timeIn, roundIn, joinIn, countIn}
+use Rattle.tables.specs.Words.{kindIn, countPIn, timeIn, lastIn, joinIn, countIn}
 use Rattle.fragment.specs.declared.Turned.{Turned}
 use Rattle.fragment.specs.Fragments.{Ranges, turnOf, zeros, begunStates, completeOf, growsOf}
 use Rattle.step.specs.declared.RuleState.{RuleState}
@@ -67,7 +67,7 @@ pub record Tables : Type 0 where
   pub ranges : List ℕ
 
 unfoldable pub planOf : ℕ → Plan
-planOf head = record { kind = kindIn head; first = countPIn head; last = roundIn head; limit = timeIn head }
+planOf head = record { kind = kindIn head; first = countPIn head; last = lastIn head; limit = timeIn head }
 
 -- the ranges of fragment k of the book
 unfoldable pub rangesOf : List ℕ → List ℕ → ℕ → Ranges

@@ -268,7 +268,7 @@ pub fn plan_of(head: u64) -> Plan
     Plan {
         kind: tables::kind(head),
         first: tables::fragments_in_p(head),
-        last: tables::fragments_in_round(head),
+        last: tables::last_in_round(head),
         limit: tables::time(head),
     }
 }

@@ -2,7 +2,7 @@
 ghost use mathlib.Core.Path.{_≡_};
 ghost use mathlib.Core.Bool.{cond};
 ghost use lib.Dec.{eqb};
-ghost use Rattle.tables.specs.Words.{kindIn, countPIn, countQIn, triggerIn, timeIn, roundIn, joinIn, countIn, nameIn, lowIn, highIn};
+ghost use Rattle.tables.specs.Words.{kindIn, countPIn, countQIn, triggerIn, timeIn, roundIn, lastIn, joinIn, countIn, nameIn, lowIn, highIn};
 
 // ---- a rule's head
 
@@ -56,6 +56,13 @@ fn fragments_last(head: u64) -> u8
         return fragments_in_q(head);
     }
     1
+}
+
+// Fragments in the round, as the head that a book keeps says it.
+pub fn last_in_round(head: u64) -> u8
+    ensures { λ r. ⌜ r ≡ lastIn head ⌝ }
+{
+    (head / 65536 % 256) as u8
 }
 
 // ---- a fragment's word
