@@ -19,7 +19,8 @@ use Rattle.book.specs.declared.Book.{Book}
 use Rattle.book.proofs.SetLaws.{round-names}
 use Rattle.tables.proofs.Bounds.{count-small}
 use Rattle.fragment.specs.Fragments.{Ranges, wordAt}
-use Rattle.step.specs.Steps.{planOf, rangesOf}
+use Rattle.deadline.specs.Plans.{planOf}
+use Rattle.step.specs.Steps.{rangesOf}
 use Rattle.step.specs.Decode.{rangeIn, rangesFrom, HoldsFragment}
 use Rattle.step.proofs.Links.{Rules}
 

@@ -27,7 +27,8 @@ use Rattle.layout.proofs.Accepted.{rules-formed}
 use Rattle.book.specs.Looks.{Looks}
 use Rattle.book.specs.declared.Book.{Book}
 use Rattle.masks.proofs.Statuses.{member-mask}
-use Rattle.step.specs.Steps.{Tables, planOf}
+use Rattle.deadline.specs.Plans.{planOf}
+use Rattle.step.specs.Steps.{Tables}
 use Rattle.step.specs.Decode.{decode}
 use Rattle.step.proofs.Status.{running}
 use Rattle.step.proofs.Links.{Rules}

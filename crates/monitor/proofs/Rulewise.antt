@@ -17,9 +17,10 @@ use Rattle.pattern.proofs.Basics.{zero-one}
 use Rattle.step.specs.declared.RuleState.{RuleState}
 use Rattle.fragment.specs.declared.Turned.{Turned}
 use Rattle.step.specs.declared.Stepped.{Stepped}
-use Rattle.step.specs.declared.Plan.{Plan}
+use Rattle.deadline.specs.declared.Plan.{Plan}
 use Rattle.fragment.specs.Fragments.{Ranges, completeOf, growsOf, turnOf}
-use Rattle.step.specs.Steps.{Tables, planOf, actOf, dueOf, pastOf, runsOf, standingOf, settledOf, rangesOf, followsOf, seenOf, beginOf, stayOf}
+use Rattle.deadline.specs.Plans.{planOf, dueOf, pastOf, followsOf, seenOf}
+use Rattle.step.specs.Steps.{Tables, actOf, runsOf, standingOf, settledOf, rangesOf, beginOf, stayOf}
 use Rattle.step.specs.Decode.{decode}
 use Rattle.step.proofs.Status.{running, time-alone, running-is}
 use Rattle.step.proofs.Links.{statusIn, Rules, Stands, acts, past-at}

@@ -22,7 +22,8 @@ use Rattle.masks.proofs.Members.{same-members, maskN-below, member-maskN, membe
 use Rattle.masks.proofs.Statuses.{member-mask, mask-below, member-mask-past}
 use Rattle.step.specs.declared.RuleState.{RuleState}
 use Rattle.fragment.specs.Upto.{mapN, length-mapN}
-use Rattle.step.specs.Steps.{Tables, planOf}
+use Rattle.deadline.specs.Plans.{planOf}
+use Rattle.step.specs.Steps.{Tables}
 use Rattle.step.specs.Decode.{decode}
 use Rattle.step.proofs.Status.{running}
 use Rattle.step.proofs.Links.{Rules, Stands}

@@ -13,7 +13,8 @@ use Rattle.words.specs.Words.{noState, rulesIn}
 use Rattle.rules.specs.declared.Masks.{Masks}
 use Rattle.masks.specs.Masks.{maskN}
 use Rattle.fragment.specs.Upto.{mapN}
-use Rattle.step.specs.Steps.{Tables, planOf, actOf, dueOf}
+use Rattle.deadline.specs.Plans.{planOf, dueOf}
+use Rattle.step.specs.Steps.{Tables, actOf}
 
 -- a rule at an observation: it has the name, or a deadline of its runs
 unfoldable pub ruleOf : Tables → ℕ → ℕ → RuleState → ℕ → ℕ → Stepped

@@ -19,7 +19,7 @@ fn rule<'a>(
     requires { ⌜ r < 16 ⌝ }
     ensures { λ k. ⌜ Steps (record { heads = now (heads .entry); fragments = now (fragments .entry); names = now (names .entry); ranges = now (ranges .entry) }) concerned r name time (now (m .entry)) k (now (m .exit)) ⌝ }
 {
-    let p = step::plan_of(heads[r]);
+    let p = deadline::plan_of(heads[r]);
     if masks::has(concerned, r) {
         let was = words::load(m, r);
         let s = step::act(fragments, names, ranges, r, p, was, name, time);
@@ -27,7 +27,7 @@ fn rule<'a>(
         words::store(m, r, st);
         return s.standing;
     }
-    step::due(p, words::end_of(m, r), time)
+    deadline::due(p, words::end_of(m, r), time)
 }
 
 // Whether a rule that stands so is open.

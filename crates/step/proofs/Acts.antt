@@ -10,12 +10,13 @@ use lib.ListN.{getD}
 use Rattle.names.specs.Names.{member}
 use Rattle.tables.specs.Words.{countIn, joinIn}
 use Rattle.tables.proofs.Bounds.{count-small}
-use Rattle.step.specs.declared.Plan.{Plan}
+use Rattle.deadline.specs.declared.Plan.{Plan}
 use Rattle.step.specs.declared.RuleState.{RuleState}
 use Rattle.step.specs.declared.Stepped.{Stepped}
 use Rattle.step.specs.declared.Moved.{Moved}
 use Rattle.fragment.specs.Fragments.{Ranges, turnOf, allOver}
-use Rattle.step.specs.Steps.{followsOf, seenOf, settledOf, rangesOf, stoodOf, beginOf, stayOf, actOf}
+use Rattle.deadline.specs.Plans.{followsOf, seenOf}
+use Rattle.step.specs.Steps.{settledOf, rangesOf, stoodOf, beginOf, stayOf, actOf}
 use Rattle.step.proofs.Ending.{passes-is}
 
 pub ranges-few : (word : ℕ) {size : ℕ} → size ≡ countIn word → size ≤ 8

@@ -13,10 +13,10 @@ use Rattle.pattern.specs.Recogniser.{isIdle, move, next, other}
 use Rattle.pattern.specs.Numbers.{stateOf, joinOf, bounds, nextState}
 use Rattle.tables.specs.Words.{lowIn, highIn}
 use Rattle.step.specs.declared.RuleState.{RuleState}
-use Rattle.step.specs.declared.Plan.{Plan}
+use Rattle.deadline.specs.declared.Plan.{Plan}
 use Rattle.fragment.specs.Upto.{foldN}
 use Rattle.fragment.specs.Fragments.{Ranges, wordAt, classAt, moveOf, turnOf, takesAt, completeOf, growsOf, overAt, allOver}
-use Rattle.step.specs.Steps.{pastOf, seenOf}
+use Rattle.deadline.specs.Plans.{pastOf, seenOf}
 use Rattle.step.proofs.Slots.{idle-number, closes-is}
 
 -- ---- one range

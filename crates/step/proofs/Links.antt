@@ -23,9 +23,10 @@ use Rattle.layout.specs.Layout.{kindNumber, timeOf}
 use Rattle.step.specs.declared.RuleState.{RuleState}
 use Rattle.fragment.specs.declared.Turned.{Turned}
 use Rattle.step.specs.declared.Stepped.{Stepped}
-use Rattle.step.specs.declared.Plan.{Plan}
+use Rattle.deadline.specs.declared.Plan.{Plan}
 use Rattle.fragment.specs.Fragments.{Ranges, classAt, countOf, moveOf, turnOf, zeros, begunOf, begunStates, completeOf, growsOf}
-use Rattle.step.specs.Steps.{pastOf, followsOf, endOf, seenOf, dueOf, runsOf, standingOf, settledOf, rangesOf, beginOf, stayOf, actOf}
+use Rattle.deadline.specs.Plans.{pastOf, followsOf, endOf, seenOf, dueOf}
+use Rattle.step.specs.Steps.{runsOf, standingOf, settledOf, rangesOf, beginOf, stayOf, actOf}
 use Rattle.fragment.specs.Upto.{length-mapN, foldN}
 use Rattle.step.specs.Decode.{decode, rangeIn, HoldsFragment, Holds}
 use Rattle.step.proofs.Slots.{moves-are, bad-is, idle-is, complete-is, grows-is, begun-are, count-kept, count-own}

@@ -13,7 +13,7 @@ use Rattle.pattern.specs.Numbers.{stateOf, joinOf}
 use Rattle.layout.specs.Layout.{kindNumber, timeOf}
 use Rattle.tables.specs.Words.{nameIn, lowIn, highIn}
 use Rattle.step.specs.declared.RuleState.{RuleState}
-use Rattle.step.specs.declared.Plan.{Plan}
+use Rattle.deadline.specs.declared.Plan.{Plan}
 use Rattle.fragment.specs.Fragments.{Ranges, wordAt}
 use Rattle.step.specs.Steps.{rangesOf}
 

@@ -4,40 +4,19 @@
 use mathlib.Core.Bool.{Bool, cond, not, _&&_, _||_}
 use mathlib.Core.List.{List}
 use Prim.Native.Nat.{ℕ, _+_, _*_, _%_}
-use lib.Dec.{leb, ltb, eqb}
+use lib.Dec.{leb, eqb}
 use lib.ListN.{getD}
 use Rattle.names.specs.Names.{member}
-use Rattle.tables.specs.Words.{kindIn, countPIn, timeIn, lastIn, joinIn, countIn}
+use Rattle.tables.specs.Words.{joinIn, countIn}
 use Rattle.fragment.specs.declared.Turned.{Turned}
 use Rattle.fragment.specs.Fragments.{Ranges, turnOf, zeros, begunStates, completeOf, growsOf}
+use Rattle.deadline.specs.declared.Plan.{Plan}
+use Rattle.deadline.specs.Plans.{followsOf, endOf, seenOf, dueOf}
 use Rattle.step.specs.declared.RuleState.{RuleState}
 use Rattle.step.specs.declared.Stepped.{Stepped}
 use Rattle.step.specs.declared.Moved.{Moved}
-use Rattle.step.specs.declared.Plan.{Plan}
-
--- ---- time
-
--- after the deadline
-unfoldable pub pastOf : Plan → ℕ → ℕ → Bool
-pastOf p end now = eqb (p .kind) 2 && ltb (end + p .limit) now
-
-unfoldable pub followsOf : ℕ → ℕ → ℕ
-followsOf f last = cond (leb last (f + 1)) 0 (f + 1)
-
-unfoldable pub endOf : Plan → ℕ → ℕ → ℕ → ℕ
-endOf p f end now = cond (leb (p .first) f) end now
-
--- how the fragment f sees the event: `here`, it has the name; `there`, the one that follows, next, has it
-unfoldable pub seenOf : Plan → ℕ → ℕ → Bool → Bool → ℕ → ℕ → ℕ
-seenOf p f next here there end now =
-    cond (leb (p .first) (cond here f next) && pastOf p end now) 3
-    (cond here 1 (cond there 2 3))
 
 -- ---- how a rule stands: 0 whole, 1 open, 2 open and a deadline runs, 3 broken
-
--- a rule whose deadline runs, at a time
-unfoldable pub dueOf : Plan → ℕ → ℕ → ℕ
-dueOf p end now = cond (pastOf p end now) 3 2
 
 unfoldable pub runsOf : Plan → ℕ → Bool → Bool → Bool
 runsOf p f complete grows = eqb (p .kind) 2 && (leb (p .first) f || leb (p .first) (followsOf f (p .last)) && (complete && not grows))
@@ -65,9 +44,6 @@ pub record Tables : Type 0 where
   pub fragments : List ℕ
   pub names : List ℕ
   pub ranges : List ℕ
-
-unfoldable pub planOf : ℕ → Plan
-planOf head = record { kind = kindIn head; first = countPIn head; last = lastIn head; limit = timeIn head }
 
 -- the ranges of fragment k of the book
 unfoldable pub rangesOf : List ℕ → List ℕ → ℕ → Ranges

@@ -4,10 +4,9 @@ ghost use mathlib.Core.Path.{_≡_};
 ghost use mathlib.Core.Bool.{false, not, _&&_};
 ghost use Prim.Native.Nat.{_+_, _*_, _%_, _<_, _≤_};
 ghost use lib.Dec.{leb, eqb};
-ghost use lib.ListN.{getD};
-ghost use Rattle.names.specs.Names.{member};
 ghost use Rattle.fragment.specs.Fragments.{turnOf, allOver, growsOf, completeOf};
-ghost use Rattle.step.specs.Steps.{pastOf, followsOf, endOf, seenOf, dueOf, runsOf, settledOf, planOf, rangesOf, stoodOf, beginOf, stayOf, actOf};
+ghost use Rattle.step.specs.Steps.{runsOf, settledOf, rangesOf, stoodOf, beginOf, stayOf, actOf};
+use deadline::Plan;
 
 // "The monitor's state holds, for each rule, its fragment number, eight recogniser states, one count and the end time of P."
 pub struct RuleState {
@@ -15,14 +14,6 @@ pub struct RuleState {
     pub states: [u8; 8],
     pub count: u16,
     pub end: u32,
-}
-
-// What a rule's head says of its round: kind, fragments in P, fragments in all, t.
-pub struct Plan {
-    pub kind: u8,
-    pub first: u8,
-    pub last: u8,
-    pub limit: u32,
 }
 
 // A rule's state after an event, and how the rule stands: 0 whole, 1 open, 2 open and a deadline runs, 3 broken.
@@ -38,89 +29,6 @@ pub struct Moved {
     pub standing: u8,
 }
 
-// ---- time
-
-// After the deadline. Sums are computed in u64: "Deadlines are natural numbers".
-fn past(p: Plan, end: u32, time: u32) -> bool
-    ensures { λ r. ⌜ r ≡ pastOf p end time ⌝ }
-{
-    if p.kind != 2 {
-        return false;
-    }
-    end as u64 + (p.limit as u64) < time as u64
-}
-
-// "the first fragment follows the last"
-fn follows(f: u8, last: u8) -> u8
-    requires { ⌜ f < 16 ⌝ }
-    ensures { λ r. ⌜ r ≡ followsOf f last ⌝ }
-{
-    if last <= f + 1 {
-        return 0;
-    }
-    f + 1
-}
-
-// The end of P after an event of fragment f.
-fn ended(p: Plan, f: u8, end: u32, time: u32) -> u32
-    ensures { λ r. ⌜ r ≡ endOf p f end time ⌝ }
-{
-    if p.first <= f {
-        return end;
-    }
-    time
-}
-
-// An event of fragment f is one of Q after the deadline.
-fn late(p: Plan, f: u8, end: u32, time: u32) -> bool
-    ensures { λ r. ⌜ r ≡ (leb (p .first) f && pastOf p end time) ⌝ }
-{
-    if p.first <= f {
-        return past(p, end, time);
-    }
-    false
-}
-
-// How fragment f of a rule sees an event: 1 as its own, 2 as *next*, 3 as *other*. An event of Q after the deadline is *other* to every range.
-// The following fragment is looked at only where f has not the name.
-fn seen(
-    names: &[u64; 256],
-    rule: usize,
-    p: Plan,
-    f: u8,
-    here: bool,
-    name: u8,
-    end: u32,
-    time: u32,
-) -> u8
-    requires { ⌜ (rule < 16) × (f < 16) ⌝ }
-    ensures { λ r. ⌜ r ≡ seenOf p f (followsOf f (p .last) % 16) here (member (getD (now (names .entry)) (16 * rule + followsOf f (p .last) % 16) 0) name) end time ⌝ }
-{
-    if here {
-        if late(p, f, end, time) {
-            return 3;
-        }
-        return 1;
-    }
-    let next = follows(f, p.last) % 16;
-    if late(p, next, end, time) {
-        return 3;
-    }
-    if names::has(names[16 * rule + next as usize], name) {
-        return 2;
-    }
-    3
-}
-
-pub fn due(p: Plan, end: u32, time: u32) -> u8
-    ensures { λ r. ⌜ r ≡ dueOf p end time ⌝ }
-{
-    if past(p, end, time) {
-        return 3;
-    }
-    2
-}
-
 // ---- how a rule stands
 
 // The rule's next event would have to be of Q and in time. The ranges are looked at only in the last fragment of P.
@@ -134,7 +42,7 @@ fn runs(ranges: &[u64; 2048], base: usize, size: usize, join: u8, p: Plan, st: R
     if p.first <= st.fragment {
         return true;
     }
-    if follows(st.fragment, p.last) < p.first {
+    if deadline::follows(st.fragment, p.last) < p.first {
         return false;
     }
     let states = st.states;
@@ -173,22 +81,12 @@ fn standing(
         return 0;
     }
     if runs(ranges, base, size, join, p, st) {
-        return due(p, st.end, time);
+        return deadline::due(p, st.end, time);
     }
     1
 }
 
 // ---- one rule
-
-// The last fragment of a rule of kind 0 is its trigger: from then on the rule is released.
-fn releases(p: Plan, f: u8) -> bool
-    ensures { λ r. ⌜ r ≡ (eqb (p .kind) 0 && leb (p .first) f) ⌝ }
-{
-    if p.kind == 0 {
-        return p.first <= f;
-    }
-    false
-}
 
 // The first event of a fragment; or the trigger of kind 0, which releases the rule.
 fn begins(
@@ -205,8 +103,8 @@ fn begins(
     requires { ⌜ (base ≤ 2040) × (size ≤ 8) ⌝ }
     ensures { λ r. ⌜ (r .state .fragment ≡ f) × (stoodOf (record { words = now (ranges .entry); base = base; size = size; join = join }) p r time ≡ beginOf (record { words = now (ranges .entry); base = base; size = size; join = join }) p f end name time) ⌝ }
 {
-    let e = ended(p, f, end, time);
-    if releases(p, f) {
+    let e = deadline::ended(p, f, end, time);
+    if deadline::releases(p, f) {
         return Moved {
             state: RuleState {
                 fragment: f,
@@ -255,21 +153,10 @@ fn stays(
             fragment: f,
             states: states,
             count: x.count,
-            end: ended(p, f, st.end, time),
+            end: deadline::ended(p, f, st.end, time),
         },
         sure: x.bad,
         standing: 3,
-    }
-}
-
-pub fn plan_of(head: u64) -> Plan
-    ensures { λ r. ⌜ r ≡ planOf head ⌝ }
-{
-    Plan {
-        kind: tables::kind(head),
-        first: tables::fragments_in_p(head),
-        last: tables::last_in_round(head),
-        limit: tables::time(head),
     }
 }
 
@@ -313,9 +200,9 @@ fn moves<'a>(
     let size = tables::ranges_in(word) as usize;
     let join = tables::join(word);
     let here = names::has(names[k], name);
-    let how = seen(names, rule, p, f, here, name, st.end, time);
+    let how = deadline::seen(names, rule, p, f, here, name, st.end, time);
     if passes(ranges, 8 * k, size, join, st, here, how) {
-        let next = follows(f, p.last) % 16;
+        let next = deadline::follows(f, p.last) % 16;
         let n = 16 * rule + next as usize;
         let w = fragments[n];
         return begins(
@@ -346,7 +233,7 @@ pub fn act<'a>(
 ) -> Stepped
     ensures { λ s. ⌜ s ≡ actOf (now (fragments .entry)) (now (names .entry)) (now (ranges .entry)) (r % 16) p st name time ⌝ }
 {
-    if releases(p, st.fragment % 16) {
+    if deadline::releases(p, st.fragment % 16) {
         return Stepped {
             state: st,
             standing: 0,

@@ -1,8 +1,8 @@
--- `step::plan_of` meets its contract: each field is what the head holds. Assumes nothing.
-use Rattle.step.specs.Steps.{planOf}
+-- `deadline::plan_of` meets its contract: each field is what the head holds. Assumes nothing.
+use Rattle.deadline.specs.Plans.{planOf}
 use borrow.Author.Needs.{needs}
-use Rattle.step.proofs.plan_of.Statement.{statement}
-use Rattle.step.proofs.plan_of.Tie as tie
+use Rattle.deadline.proofs.plan_of.Statement.{statement}
+use Rattle.deadline.proofs.plan_of.Tie as tie
 
 kind-requires : tie.Need-kind-requires
 kind-requires c κs = search needs

@@ -1,8 +1,8 @@
--- `step::seen` meets its contract: at each return the tests are as in `seenOf`. Assumes nothing.
-use Rattle.step.specs.Steps.{seenOf}
+-- `deadline::seen` meets its contract: at each return the tests are as in `seenOf`. Assumes nothing.
+use Rattle.deadline.specs.Plans.{seenOf}
 use borrow.Author.Needs.{needs}
-use Rattle.step.proofs.seen.Statement.{statement}
-use Rattle.step.proofs.seen.Tie as tie
+use Rattle.deadline.proofs.seen.Statement.{statement}
+use Rattle.deadline.proofs.seen.Tie as tie
 
 late-requires : tie.Need-late-requires
 late-requires c κs = search needs

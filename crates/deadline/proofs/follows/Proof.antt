@@ -1,11 +1,11 @@
--- `step::follows` meets its contract: at each return the test is as in `followsOf`. Assumes nothing.
+-- `deadline::follows` meets its contract: at each return the test is as in `followsOf`. Assumes nothing.
 use Prim.Native.Nat.{_+_}
 use native.Mathlib.Omega.{arith}
 use borrow.Author.Tests.{le-leb, lt-leb}
-use Rattle.step.specs.Steps.{followsOf}
+use Rattle.deadline.specs.Plans.{followsOf}
 use borrow.Author.Needs.{needs}
-use Rattle.step.proofs.follows.Statement.{statement}
-use Rattle.step.proofs.follows.Tie as tie
+use Rattle.deadline.proofs.follows.Statement.{statement}
+use Rattle.deadline.proofs.follows.Tie as tie
 
 add-if1 : tie.Need-add-if1
 add-if1 c = search needs

@@ -1,8 +1,8 @@
--- `step::ended` meets its contract: at each return the test is as in `endOf`. Assumes nothing.
+-- `deadline::ended` meets its contract: at each return the test is as in `endOf`. Assumes nothing.
 use borrow.Author.Tests.{le-leb, lt-leb}
-use Rattle.step.specs.Steps.{endOf}
-use Rattle.step.proofs.ended.Statement.{statement}
-use Rattle.step.proofs.ended.Tie as tie
+use Rattle.deadline.specs.Plans.{endOf}
+use Rattle.deadline.proofs.ended.Statement.{statement}
+use Rattle.deadline.proofs.ended.Tie as tie
 
 returns : tie.Need-returns
 unfolding endOf

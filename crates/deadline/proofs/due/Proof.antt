@@ -1,8 +1,8 @@
--- `step::due` meets its contract: at each return the test is as in `dueOf`. Assumes nothing.
-use Rattle.step.specs.Steps.{dueOf}
+-- `deadline::due` meets its contract: at each return the test is as in `dueOf`. Assumes nothing.
+use Rattle.deadline.specs.Plans.{dueOf}
 use borrow.Author.Needs.{needs}
-use Rattle.step.proofs.due.Statement.{statement}
-use Rattle.step.proofs.due.Tie as tie
+use Rattle.deadline.proofs.due.Statement.{statement}
+use Rattle.deadline.proofs.due.Tie as tie
 
 past-requires : tie.Need-past-requires
 past-requires c κs = search needs

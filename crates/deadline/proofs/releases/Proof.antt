@@ -1,7 +1,7 @@
--- `step::releases` meets its contract: at each return the test is as there. Assumes nothing.
+-- `deadline::releases` meets its contract: at each return the test is as there. Assumes nothing.
 use borrow.Author.Tests.{eq-eqb, ne-eqb}
-use Rattle.step.proofs.releases.Statement.{statement}
-use Rattle.step.proofs.releases.Tie as tie
+use Rattle.deadline.proofs.releases.Statement.{statement}
+use Rattle.deadline.proofs.releases.Tie as tie
 
 returns : tie.Need-returns
 returns c = simp (eq-eqb _ _ (c .before .if1 .taken))

@@ -1,9 +1,9 @@
--- `step::past` meets its contract: at each return the test is as in `pastOf`. Assumes nothing.
+-- `deadline::past` meets its contract: at each return the test is as in `pastOf`. Assumes nothing.
 use borrow.Author.Tests.{eq-eqb, ne-eqb}
-use Rattle.step.specs.Steps.{pastOf}
+use Rattle.deadline.specs.Plans.{pastOf}
 use borrow.Author.Needs.{needs}
-use Rattle.step.proofs.past.Statement.{statement}
-use Rattle.step.proofs.past.Tie as tie
+use Rattle.deadline.proofs.past.Statement.{statement}
+use Rattle.deadline.proofs.past.Tie as tie
 
 returns : tie.Need-returns
 unfolding pastOf

@@ -1,8 +1,8 @@
--- `step::late` meets its contract: at each return the test is as there. Assumes nothing.
+-- `deadline::late` meets its contract: at each return the test is as there. Assumes nothing.
 use borrow.Author.Tests.{le-leb, lt-leb}
 use borrow.Author.Needs.{needs}
-use Rattle.step.proofs.late.Statement.{statement}
-use Rattle.step.proofs.late.Tie as tie
+use Rattle.deadline.proofs.late.Statement.{statement}
+use Rattle.deadline.proofs.late.Tie as tie
 
 past-requires : tie.Need-past-requires
 past-requires c κs = search needs
