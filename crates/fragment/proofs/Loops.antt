@@ -9,8 +9,9 @@ use native.Mathlib.Omega.{arith}
 use lib.Dec.{eqb}
 use lib.ListN.{length, getD, set, replicate}
 use borrow.Author.Tests.{ne-eqb}
-use Rattle.pattern.specs.Numbers.{stateNumber, joinOf, bounds, nextState}
-use Rattle.pattern.specs.Entries.{entryState, entryIn, IsColumn}
+use Rattle.pattern.specs.Recogniser.{stateNumber}
+use Rattle.recogniser.specs.Numbers.{joinOf, bounds, nextState}
+use Rattle.recogniser.specs.Entries.{entryState, entryIn, IsColumn}
 use Rattle.tables.specs.Words.{nameIn, lowIn, highIn}
 use Rattle.fragment.specs.Upto.{mapN, foldN, mapN-more, foldN-more}
 use Rattle.fragment.specs.Fragments.{Ranges, wordAt, classAt, countAt, moveOf, countOf, badOf, idleOf, turnOf, begunAt, begunOf, begunStates, digits, unbegunOf, freshStates, zeros}

@@ -6,7 +6,7 @@ use mathlib.Core.List.{List, [], _∷_}
 use Prim.Native.Nat.{ℕ, zero, suc, _+_, _/_, _%_}
 use lib.Dec.{leb, ltb, eqb}
 use lib.ListN.{getD, replicate}
-use Rattle.pattern.specs.Numbers.{nextState}
+use Rattle.recogniser.specs.Numbers.{nextState}
 use Rattle.tables.specs.Words.{nameIn, lowIn, highIn}
 use Rattle.fragment.specs.declared.Turned.{Turned}
 use Rattle.fragment.specs.Upto.{mapN, foldN}

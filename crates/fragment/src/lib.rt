@@ -4,8 +4,9 @@ ghost use mathlib.Core.Path.{_≡_};
 ghost use mathlib.Core.Bool.{cond, _&&_, _||_};
 ghost use Prim.Native.Nat.{_≤_};
 ghost use lib.Dec.{eqb};
-ghost use Rattle.pattern.specs.Numbers.{stateNumber, joinOf, bounds};
-ghost use Rattle.pattern.specs.Entries.{entryState, entryIn};
+ghost use Rattle.pattern.specs.Recogniser.{stateNumber};
+ghost use Rattle.recogniser.specs.Numbers.{joinOf, bounds};
+ghost use Rattle.recogniser.specs.Entries.{entryState, entryIn};
 ghost use Rattle.tables.specs.Words.{lowIn, highIn};
 ghost use Rattle.fragment.specs.Fragments.{classAt, countAt, turnOf, begunAt, begunStates, digits, freshStates, closesAt, takesAt, overAt, allOver};
 
@@ -45,11 +46,11 @@ fn column_of(class: u8, own: u32, other: u32) -> u32
 fn moved_by(column: u32, s: u8, join: u8, count: u16, word: u64) -> u8
     ensures { λ r. ⌜ r ≡ stateNumber (entryState (joinOf join) (bounds (lowIn word) (highIn word)) count (entryIn column s)) ⌝ }
 {
-    let entry = pattern::entry(column, s);
+    let entry = recogniser::entry(column, s);
     if entry <= 5 {
         return entry;
     }
-    pattern::decided(entry, join, count, tables::low(word), tables::high(word))
+    recogniser::decided(entry, join, count, tables::low(word), tables::high(word))
 }
 
 // The count after an event of this class, where a range was in state s; kept is the count of the ranges before it.
@@ -104,8 +105,8 @@ pub fn turn(
     let mut kept = count;
     let mut bad = false;
     let mut idle = true;
-    let own = pattern::column(0);
-    let other = pattern::column(seen);
+    let own = recogniser::column(0);
+    let other = recogniser::column(seen);
     let mut i = 0usize;
     while i < size {
         let word = ranges[base + i];

@@ -24,7 +24,6 @@ use Rattle.runner.specs.declared.Outcome.{Outcome}
 use Rattle.runner.specs.Log.{turnedAway}
 use Rattle.runner.specs.Runs.{Runs}
 use Rattle.host.specs.Host.{outcomeBy, Judging, Outcomes, twelve, Calls}
-use Rattle.host.proofs.Places.{Near, near}
 
 -- ---- a judge for every sheet
 
@@ -48,31 +47,22 @@ module _ (sheet : List ℕ) (bytes : Bytes sheet) where
 
   -- ---- what the reader's answer says
 
-  module _ (t : Translation) (translates : Translates sheet t) where
-    -- the place of a refusal fits a u32
-    pub place-fits : {number place : ℕ} → t .answer ≡ Refused number place → place ≤ 10894
-    place-fits {number} {place} e = look (readSheet sheet) (near sheet) (sym e ∙ translates .answers)
+  module _ (t : Translation) (translates : Translates sheet t) (log : List ℕ) (budget : ℕ) (r : Outcome) where
+    pub sheet-refused : {number place : ℕ} → t .answer ≡ Refused number place → r ≡ turnedAway number place → Outcomes sheet log budget r
+    sheet-refused {number} {place} e is oracle judging = look (readSheet sheet) (sym e ∙ translates .answers)
       where
-        look : (r : R.Outcome) → Near r → Refused number place ≡ answerOf r → place ≤ 10894
-        look (accepted S) h p = absurd (let z : _≡_ {A = ℕ} 0 1 = cc p in omega arith)
-        look (refused k q) h p = let z : place ≡ q = cc p in omega arith
+        look : (x : R.Outcome) → Refused number place ≡ answerOf x → r ≡ outcomeBy oracle x log budget
+        look (accepted S) p = absurd (let z : _≡_ {A = ℕ} 0 1 = cc p in omega arith)
+        look (refused k q) p = is ∙ ap₂ turnedAway (cc p) (cc p)
 
-    module _ (log : List ℕ) (budget : ℕ) (r : Outcome) where
-      pub sheet-refused : {number place : ℕ} → t .answer ≡ Refused number place → r ≡ turnedAway number place → Outcomes sheet log budget r
-      sheet-refused {number} {place} e is oracle judging = look (readSheet sheet) (sym e ∙ translates .answers)
-        where
-          look : (x : R.Outcome) → Refused number place ≡ answerOf x → r ≡ outcomeBy oracle x log budget
-          look (accepted S) p = absurd (let z : _≡_ {A = ℕ} 0 1 = cc p in omega arith)
-          look (refused k q) p = is ∙ ap₂ turnedAway (cc p) (cc p)
-
-      pub sheet-accepted : tagOf the-type (t .answer) ≡ 0 → Runs (t .book .heads) (t .book .fragments) (t .book .names) (t .book .ranges) (t .book .holders) log budget r → Outcomes sheet log budget r
-      sheet-accepted e runs oracle judging = look (readSheet sheet) refl (sym e ∙ ap (tagOf the-type) (translates .answers))
-        where
-          look : (x : R.Outcome) → readSheet sheet ≡ x → 0 ≡ tagOf the-type (answerOf x) → r ≡ outcomeBy oracle x log budget
-          look (accepted S) f p =
-              runs S (t .book) (accepted-is-encoded sheet bytes f .formed) (translated sheet t bytes translates S f)
-              (record { heads′ = refl; fragments′ = refl; names′ = refl; ranges′ = refl; holders′ = refl }) oracle (judging S f)
-          look (refused k q) f p = absurd (omega arith)
+    pub sheet-accepted : tagOf the-type (t .answer) ≡ 0 → Runs (t .book .heads) (t .book .fragments) (t .book .names) (t .book .ranges) (t .book .holders) log budget r → Outcomes sheet log budget r
+    sheet-accepted e runs oracle judging = look (readSheet sheet) refl (sym e ∙ ap (tagOf the-type) (translates .answers))
+      where
+        look : (x : R.Outcome) → readSheet sheet ≡ x → 0 ≡ tagOf the-type (answerOf x) → r ≡ outcomeBy oracle x log budget
+        look (accepted S) f p =
+            runs S (t .book) (accepted-is-encoded sheet bytes f .formed) (translated sheet t bytes translates S f)
+            (record { heads′ = refl; fragments′ = refl; names′ = refl; ranges′ = refl; holders′ = refl }) oracle (judging S f)
+        look (refused k q) f p = absurd (omega arith)
 
 -- ---- the call
 

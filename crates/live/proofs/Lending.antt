@@ -23,12 +23,11 @@ use Rattle.book.specs.Books.{Translates, bookOf}
 use Rattle.book.specs.Looks.{Looks}
 use Rattle.book.proofs.Translated.{translated}
 use Rattle.words.specs.Words.{heldBy}
-use Rattle.monitor.specs.Promise.{said, seen, verdictIn, Says, Freshes, Follows, ObservesLent}
+use Rattle.monitor.specs.Promise.{said, seen, observation, verdictIn, Says, Freshes, Follows, ObservesLent}
 use Rattle.observing.specs.declared.Answer.{Answer}
 use Rattle.observing.specs.declared.Answer.the-variants.{Whole, Open, Broken}
 use Rattle.observing.specs.declared.Answer.the-variants as A
 use Rattle.observing.specs.declared.Observation.{Observation as Seen}
-use Rattle.runner.specs.Log.{observation}
 use Rattle.monitor.proofs.Agreement.{follows-taken, follows-verdict}
 use Rattle.live.specs.Live.{answerWord, refusedWord, Arrays, OpensBy, OpensLent, Narrowed, SameTurn, Notes, NotesLent, verdictIs, Live, none, call, LiveAgrees}
 

@@ -3,8 +3,7 @@
 ghost use mathlib.Core.Path.{_≡_};
 ghost use Prim.Native.Nat.{_+_, _*_, _<_};
 ghost use Rattle.words.specs.Words.{heldBy};
-ghost use Rattle.monitor.specs.Promise.{Freshes, said, seen};
-ghost use Rattle.runner.specs.Log.{observation};
+ghost use Rattle.monitor.specs.Promise.{Freshes, said, seen, observation};
 ghost use Rattle.live.specs.Live.{answerWord, refusedWord, OpensLent, Narrowed, SameTurn, NotesLent, verdictIs};
 use observing::Answer;
 use observing::Observation;

@@ -17,11 +17,11 @@ use Rattle.pattern.specs.Judge as J
 use Rattle.pattern.specs.Recogniser.{notBegun}
 use Rattle.pattern.specs.Model.{roundOf, fragmentAt, statuses, statusAt, atRest, freshMonitor, fresh}
 use Rattle.pattern.specs.Model as M
-use Rattle.pattern.specs.Numbers.{stateOf}
 use Rattle.pattern.proofs.Basics.{is-true}
 use Rattle.pattern.proofs.Oracle.{modelOracle, right-oracle}
 use Rattle.pattern.proofs.Tracks.{fresh-at-rest}
 use Rattle.pattern.proofs.Agreement.{fresh-follows}
+use Rattle.recogniser.specs.Numbers.{stateOf}
 use Rattle.layout.specs.Layout.{Sheet, WellFormedSheet, Bytes}
 use Rattle.layout.specs.Pages.{ruleAt}
 use Rattle.layout.specs.Reading.{accepted, readSheet}

@@ -9,8 +9,8 @@ use lib.ListN.{length, getD}
 use Rattle.pattern.specs.Lists.{Distinct}
 use Rattle.pattern.specs.Meaning.{Range, Join, all, any, Fragment, fragmentNames, orderingNames, Rule, WellFormed}
 use Rattle.pattern.specs.Model.{roundOf, fragmentAt, noFragment}
-use Rattle.pattern.specs.Numbers.{joinOf}
 use Rattle.pattern.proofs.Basics.{distinct-left, distinct-right}
+use Rattle.recogniser.specs.Numbers.{joinOf}
 use Rattle.layout.specs.Layout.{Sheet, WellFormedSheet, WellFormedRule, joinNumber}
 use Rattle.layout.specs.Pages.{ruleAt, noRule, noRange}
 use Rattle.layout.proofs.PageLaws.{each-at, round-few}

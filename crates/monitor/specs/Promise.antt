@@ -32,6 +32,10 @@ abbrev pub seen : Observation → J.Observation
 seen (Event name time) = J.event name time
 seen (Clock time) = J.clock time
 
+-- an observation in a host's numbers: "a name 0 to 63 or FF for a clock reading", and the time; any other number is a name that the judge refuses
+abbrev pub observation : ℕ → ℕ → J.Observation
+observation name time = cond (eqb name 255) (J.clock time) (J.event name time)
+
 -- the verdict that a monitor holds: 2 is broken, at the last observation taken; 1 is open
 abbrev pub verdictIn : Held → Verdict
 verdictIn m = cond (eqb (m .verdict) 2) (brokenAt (m .taken) (m .mask)) (cond (eqb (m .verdict) 1) (someOpen (m .mask)) allWhole)

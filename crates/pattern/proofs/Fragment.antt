@@ -11,8 +11,7 @@ use lib.Dec.{T, leb, eqb, leb→le, nleb→lt, ltb→lt, T-not}
 use lib.ListN.{length, replicate}
 use Rattle.pattern.specs.Lists.{In, Distinct, isIn}
 use Rattle.pattern.specs.Meaning.{Range, Join, Fragment, Enough, AtMost, Between, MatchesFragment, fragmentNames}
-use Rattle.pattern.specs.Recogniser.{State, idle, unbegun, waiting, counting, done, error, Class, own, next, hasRoom, move, isIdle, isCounting, isError, Slot, slots, moves, counts, notBegun, within, erred, complete, canGrow}
-use Rattle.pattern.specs.Numbers.{stateNumber}
+use Rattle.pattern.specs.Recogniser.{State, idle, unbegun, waiting, counting, done, error, stateNumber, Class, own, next, hasRoom, move, isIdle, isCounting, isError, Slot, slots, moves, counts, notBegun, within, erred, complete, canGrow}
 use Rattle.pattern.proofs.Basics.{test, in-map, distinct-map, of-map, all→, any→, any←, isIn→, isIn←}
 use Rattle.pattern.proofs.Block.{fewer, Parse, close-block, open-block, least, least-blocks, InFragment, match→choice, choice→match, match-some}
 use Rattle.pattern.proofs.Running.{Calm, slot, slot-is, turn, own-not-waiting, same-ranges, within-own, within-sibling, room, error-stays, error-not-idle, counts-own, Running, Waits, Fine, one, in-range, has-slot, kind, Next, longer, begun, failed, next?, run-longer, run-begun, count-longer, count-begun, parse-longer, parse-begun, Parsed, parsed, closed-enough, closed→, closed←}

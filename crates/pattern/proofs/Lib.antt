@@ -18,6 +18,3 @@ pub mod Agreement
 pub mod WellFormed
 pub mod Marked
 pub mod Consequences
-pub mod Numbers
-pub mod Table
-pub mod Moves

@@ -12,8 +12,7 @@ use lib.ListN.{replicate}
 use borrow.Author.Tests.{eq-eqb, ne-eqb}
 use Rattle.pattern.specs.Lists.{In, Distinct, isIn}
 use Rattle.pattern.specs.Meaning.{Range, Join, Enough, AtMost}
-use Rattle.pattern.specs.Recogniser.{State, idle, unbegun, waiting, counting, done, error, Class, own, sibling, next, hasEnough, hasRoom, mayBeLeftOut, move, isIdle, isError, nextCount, Slot, counts, within, erred, complete}
-use Rattle.pattern.specs.Numbers.{stateNumber}
+use Rattle.pattern.specs.Recogniser.{State, idle, unbegun, waiting, counting, done, error, stateNumber, Class, own, sibling, next, hasEnough, hasRoom, mayBeLeftOut, move, isIdle, isError, nextCount, Slot, counts, within, erred, complete}
 use Rattle.pattern.proofs.Basics.{is-true, same?, in-map, of-map, distinct-map, all→, all←, any←, isIn→, isIn←}
 use Rattle.pattern.proofs.Block.{fewer, Choice, Parse, choice-map, close-block, open-block, choice-nil, nil-choice}
 

@@ -5,5 +5,3 @@ pub mod Recogniser
 pub mod Model
 pub mod Agreement
 pub mod Traces
-pub mod Numbers
-pub mod Entries

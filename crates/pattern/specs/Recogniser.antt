@@ -13,6 +13,15 @@ use Rattle.pattern.specs.Meaning.{Range, Join, all, any}
 pub data State : Type 0 where
   idle unbegun waiting counting done error : State
 
+-- its number
+abbrev pub stateNumber : State → ℕ
+stateNumber idle = 0
+stateNumber unbegun = 1
+stateNumber waiting = 2
+stateNumber counting = 3
+stateNumber done = 4
+stateNumber error = 5
+
 -- "own, sibling (same fragment), next (a name of the following fragment) or other"
 pub data Class : Type 0 where
   own sibling next other : Class

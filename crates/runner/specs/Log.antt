@@ -5,16 +5,14 @@ use mathlib.Core.List.{List, [], _∷_}
 use Prim.Native.Nat.{ℕ, zero, suc, _+_, _*_, _/_, _%_, min}
 use lib.Dec.{ltb, eqb}
 use lib.ListN.{length, getD}
-use Rattle.pattern.specs.Judge.{Observation, event, clock, Oracle, Verdict, allWhole, someOpen, brokenAt, Answer, verdict, refused, Kept, nothing, Turn, judge}
+use Rattle.pattern.specs.Judge.{Observation, Oracle, Verdict, allWhole, someOpen, brokenAt, Answer, verdict, refused, Kept, nothing, Turn, judge}
 use Rattle.layout.specs.Form.{number}
+use Rattle.monitor.specs.Promise.{observation}
 use Rattle.runner.specs.declared.Outcome.{Outcome}
 
 -- ---- records
 
 -- the record at an offset: "a name 0 to 63 or FF for a clock reading, then the time"; 64 to 254 are names that the judge refuses
-abbrev pub observation : ℕ → ℕ → Observation
-observation name time = cond (eqb name 255) (clock time) (event name time)
-
 abbrev pub recordFrom : List ℕ → ℕ → Observation
 recordFrom log at = observation (getD log at 0) (number log 4 (at + 1))
 

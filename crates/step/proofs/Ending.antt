@@ -10,7 +10,7 @@ use lib.Dec.{eqb, leb}
 use borrow.Author.Tests.{ne-eqb}
 use Rattle.pattern.specs.Meaning.{Join}
 use Rattle.pattern.specs.Recogniser.{isIdle, move, next, other}
-use Rattle.pattern.specs.Numbers.{stateOf, joinOf, bounds, nextState}
+use Rattle.recogniser.specs.Numbers.{stateOf, joinOf, bounds, nextState}
 use Rattle.tables.specs.Words.{lowIn, highIn}
 use Rattle.step.specs.declared.RuleState.{RuleState}
 use Rattle.deadline.specs.declared.Plan.{Plan}

@@ -15,9 +15,9 @@ use Rattle.pattern.specs.Meaning.{Event, Range, Join, Fragment, fragmentNames, 
 use Rattle.pattern.specs.Recogniser.{State, idle, unbegun, move, Class, own, sibling, next, other, isIdle, isError, isUnbegun, nextCount, Slot, slots, moves, counts, notBegun, within, erred, complete, canGrow}
 use Rattle.pattern.specs.Model.{roundOf, inTime, isOnce, fragmentAt, has, isLast, following, afterP, slotsOf, joinOf, released, late, classOf, endAfter, begin, moved, passes, stay, step, atRest, statusAt}
 use Rattle.pattern.specs.Model as M
-use Rattle.pattern.specs.Numbers as Num
 use Rattle.pattern.proofs.Basics.{zero-one, is-false}
 use Rattle.pattern.proofs.Keeps.{all-begun}
+use Rattle.recogniser.specs.Numbers as Num
 use Rattle.tables.specs.Words.{nameIn, lowIn, highIn}
 use Rattle.layout.specs.Layout.{kindNumber, timeOf}
 use Rattle.step.specs.declared.RuleState.{RuleState}

@@ -13,10 +13,10 @@ use lib.ListN.{length, replicate}
 use borrow.Author.Tests.{ne-eqb}
 use Rattle.pattern.specs.Lists.{In, Distinct, allOf, anyOf}
 use Rattle.pattern.specs.Meaning.{Range, Join}
-use Rattle.pattern.specs.Recogniser.{State, idle, unbegun, waiting, counting, done, error, Class, own, sibling, next, other, move, isIdle, isCounting, isError, nextCount, Slot, slots, moves, counts, notBegun, within, erred, complete, canGrow}
-use Rattle.pattern.specs.Numbers.{stateNumber, stateOf, joinOf, bounds, nextState}
-use Rattle.pattern.specs.Numbers as Num
-use Rattle.pattern.proofs.Numbers.{state-back}
+use Rattle.pattern.specs.Recogniser.{State, idle, unbegun, waiting, counting, done, error, stateNumber, Class, own, sibling, next, other, move, isIdle, isCounting, isError, nextCount, Slot, slots, moves, counts, notBegun, within, erred, complete, canGrow}
+use Rattle.recogniser.specs.Numbers.{stateOf, joinOf, bounds, nextState}
+use Rattle.recogniser.specs.Numbers as Num
+use Rattle.recogniser.proofs.Numbers.{state-back}
 use Rattle.tables.specs.Words.{nameIn, lowIn, highIn}
 use Rattle.fragment.specs.Upto.{mapN, foldN}
 use Rattle.fragment.specs.Fragments.{Ranges, wordAt, classAt, countAt, classOf, moveOf, badOf, idleOf, countOf, begunAt, begunOf, unbegunOf, closesAt, takesAt, closesOf, takesOf}

@@ -9,7 +9,7 @@ use Rattle.pattern.specs.Lists.{isIn}
 use Rattle.pattern.specs.Meaning.{Range, Fragment, fragmentNames, Rule}
 use Rattle.pattern.specs.Model.{roundOf, fragmentAt}
 use Rattle.pattern.specs.Model as M
-use Rattle.pattern.specs.Numbers.{stateOf, joinOf}
+use Rattle.recogniser.specs.Numbers.{stateOf, joinOf}
 use Rattle.layout.specs.Layout.{kindNumber, timeOf}
 use Rattle.tables.specs.Words.{nameIn, lowIn, highIn}
 use Rattle.step.specs.declared.RuleState.{RuleState}

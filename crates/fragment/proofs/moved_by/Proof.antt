@@ -1,8 +1,8 @@
--- `fragment::moved_by` meets its contract: an entry up to 5 is a state, and `pattern::decided` says what any other is. Assumes nothing.
+-- `fragment::moved_by` meets its contract: an entry up to 5 is a state, and `recogniser::decided` says what any other is. Assumes nothing.
 use mathlib.Core.Path.{sym, _∙_}
 use native.Mathlib.Omega.{arith}
-use Rattle.pattern.specs.Numbers.{joinOf, bounds}
-use Rattle.pattern.proofs.Moves.{entry-is}
+use Rattle.recogniser.specs.Numbers.{joinOf, bounds}
+use Rattle.recogniser.proofs.Moves.{entry-is}
 use Rattle.tables.specs.Words.{lowIn, highIn}
 use borrow.Author.Needs.{needs}
 use Rattle.fragment.proofs.moved_by.Statement.{statement}

@@ -3,7 +3,7 @@ use mathlib.Core.Path.{_≡_}
 use Prim.Native.Nat.{_-_}
 use native.Mathlib.Omega.{arith}
 use lib.ListN.{length}
-use Rattle.pattern.specs.Entries.{IsColumn}
+use Rattle.recogniser.specs.Entries.{IsColumn}
 use Rattle.fragment.proofs.Loops.{moved-is, Turning, turning-more, turning-end}
 use borrow.Author.Needs.{needs}
 use Rattle.fragment.proofs.turn.Statement.{statement}

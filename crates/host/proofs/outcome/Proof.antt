@@ -2,7 +2,8 @@
 use mathlib.Core.Path.{refl}
 use native.Mathlib.Omega.{arith}
 use Rattle.layout.proofs.Fields.{bytes-of}
-use Rattle.host.proofs.Outcomes.{place-fits, sheet-refused, sheet-accepted}
+use Rattle.book.proofs.Translated.{place-fits}
+use Rattle.host.proofs.Outcomes.{sheet-refused, sheet-accepted}
 use borrow.Author.Needs.{needs}
 use Rattle.host.proofs.outcome.Statement.{statement}
 use Rattle.host.proofs.outcome.Tie as tie

@@ -1,7 +1,7 @@
 -- `live::guard_lent_open` keeps its promise, by the reader's answer. The place of a refusal fits a u32, however long the sheet is. Assumes nothing.
 use native.Mathlib.Omega.{arith}
 use Rattle.layout.proofs.Fields.{bytes-of}
-use Rattle.host.proofs.Outcomes.{place-fits}
+use Rattle.book.proofs.Translated.{place-fits}
 use Rattle.live.proofs.Lending.{opens-accepted, opens-refused}
 use borrow.Author.Needs.{needs}
 use Rattle.live.proofs.guard_lent_open.Statement.{statement}

@@ -1,7 +1,7 @@
 -- `runner::record_from` meets its contract: the first byte is the name, and the time comes after it. Assumes nothing.
 use mathlib.Core.Path.{ap, _∙_}
 use lib.ListN.{getD}
-use Rattle.runner.specs.Log.{observation}
+use Rattle.monitor.specs.Promise.{observation}
 use borrow.Author.Needs.{needs}
 use Rattle.runner.proofs.record_from.Statement.{statement}
 use Rattle.runner.proofs.record_from.Tie as tie

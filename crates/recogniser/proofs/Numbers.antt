@@ -2,9 +2,9 @@
 use mathlib.Core.Path.{_≡_, refl}
 use Prim.Native.Nat.{ℕ, zero, suc, min}
 use native.Mathlib.Omega.{arith}
 use Rattle.pattern.specs.Meaning.{Join, all, any}
-use Rattle.pattern.specs.Recogniser.{State, idle, unbegun, waiting, counting, done, error, Class, own, sibling, next, other}
-use Rattle.pattern.specs.Numbers.{stateNumber, stateOf, classNumber, classOf, joinNumber, joinOf}
+use Rattle.pattern.specs.Recogniser.{State, idle, unbegun, waiting, counting, done, error, stateNumber, Class, own, sibling, next, other}
+use Rattle.recogniser.specs.Numbers.{stateOf, classNumber, classOf, joinNumber, joinOf}
 
 pub state-back : (s : State) → stateOf (stateNumber s) ≡ s
 state-back idle = refl

@@ -4,9 +4,9 @@ use mathlib.Core.Path.{_≡_}
 use mathlib.Core.Bool.{cond}
 use Prim.Native.Nat.{ℕ, _*_, _/_, _%_, _^_, min}
 use lib.Dec.{eqb}
 use Rattle.pattern.specs.Meaning.{Range, Join}
 use Rattle.pattern.specs.Recogniser.{State, idle, counting, done, error, hasEnough, hasRoom, mayBeLeftOut, move}
-use Rattle.pattern.specs.Numbers.{stateOf, classOf}
+use Rattle.recogniser.specs.Numbers.{stateOf, classOf}
 
 -- "3 if count < v, else 5" (6), "4 if count ≥ u, else 5" (7), "0 if count ≥ u, else 5" (8), "0 if any, 5 if all" (9); every other entry is a state
 abbrev pub entryState : Join → Range → ℕ → ℕ → State

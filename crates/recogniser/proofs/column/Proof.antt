@@ -1,9 +1,9 @@
--- `pattern::column` meets its contract: the constant at the class's number, or at the last past it, is that column of document 01's table. Assumes nothing.
+-- `recogniser::column` meets its contract: the constant at the class's number, or at the last past it, is that column of document 01's table. Assumes nothing.
 use native.Mathlib.Omega.{arith}
 use borrow.Author.Needs.{needs}
-use Rattle.pattern.proofs.Moves.{is-column}
-use Rattle.pattern.proofs.column.Statement.{statement}
-use Rattle.pattern.proofs.column.Tie as tie
+use Rattle.recogniser.proofs.Moves.{is-column}
+use Rattle.recogniser.proofs.column.Statement.{statement}
+use Rattle.recogniser.proofs.column.Tie as tie
 
 mul-result : tie.Need-mul-result
 mul-result c = search needs

@@ -1,18 +1,10 @@
 -- Document 01's numbers for the states of a range, the classes of an event and the joins of a fragment, both ways, and the move in these numbers.
 -- Code holds numbers, and every number stands for something, so that nothing is asked of them. Assumes nothing.
 use Prim.Native.Nat.{ℕ, zero, suc}
 use Rattle.pattern.specs.Meaning.{Range, Join, all, any}
-use Rattle.pattern.specs.Recogniser.{State, idle, unbegun, waiting, counting, done, error, Class, own, sibling, next, other, move}
+use Rattle.pattern.specs.Recogniser.{State, idle, unbegun, waiting, counting, done, error, stateNumber, Class, own, sibling, next, other, move}
 
--- "0 idle, 1 fragment not begun, 2 waiting while a sibling has begun, 3 counting, 4 done, 5 error"; every number above 4 is error
-abbrev pub stateNumber : State → ℕ
-stateNumber idle = 0
-stateNumber unbegun = 1
-stateNumber waiting = 2
-stateNumber counting = 3
-stateNumber done = 4
-stateNumber error = 5
-
+-- a state's number is `stateNumber` of pattern's `Recogniser`; every number above 4 is error
 abbrev pub stateOf : ℕ → State
 stateOf zero = idle
 stateOf (suc zero) = unbegun

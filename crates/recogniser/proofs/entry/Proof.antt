@@ -1,11 +1,11 @@
--- `pattern::entry` meets its contract: the shift brings the state's digit to the lowest place, and the mask takes it alone. Assumes nothing.
+-- `recogniser::entry` meets its contract: the shift brings the state's digit to the lowest place, and the mask takes it alone. Assumes nothing.
 use mathlib.Core.Path.{_≡_, _∙_}
 use Prim.Native.Nat.{ℕ, _*_, _/_, _%_, _^_, _<_}
 use native.Mathlib.Omega.{arith}
 use lib.Bits.{and-mask, bitAnd}
 use borrow.Author.Needs.{needs}
-use Rattle.pattern.proofs.entry.Statement.{statement}
-use Rattle.pattern.proofs.entry.Tie as tie
+use Rattle.recogniser.proofs.entry.Statement.{statement}
+use Rattle.recogniser.proofs.entry.Tie as tie
 
 at-most-requires : tie.Need-at-most-requires
 at-most-requires c κs = search needs

@@ -1,14 +1,15 @@
--- `pattern::decided` meets its contract: each arm of the match is the case of its entry, and the test in it is that entry's condition. Assumes nothing.
+-- `recogniser::decided` meets its contract: each arm of the match is the case of its entry, and the test in it is that entry's condition. Assumes nothing.
 use mathlib.Core.Path.{_≡_}
 use Prim.Native.Nat.{ℕ, min}
 use native.Mathlib.Omega.{arith}
 use borrow.Author.Tests.{lt-ltb, le-ltb, le-leb, lt-leb, ne-eqb}
 use Rattle.pattern.specs.Meaning.{Join, Range}
-use Rattle.pattern.specs.Numbers.{stateNumber, joinOf, bounds}
-use Rattle.pattern.specs.Entries.{entryState}
-use Rattle.pattern.proofs.Numbers.{state-number, join-any}
-use Rattle.pattern.proofs.decided.Statement.{statement}
-use Rattle.pattern.proofs.decided.Tie as tie
+use Rattle.pattern.specs.Recogniser.{stateNumber}
+use Rattle.recogniser.specs.Numbers.{joinOf, bounds}
+use Rattle.recogniser.specs.Entries.{entryState}
+use Rattle.recogniser.proofs.Numbers.{state-number, join-any}
+use Rattle.recogniser.proofs.decided.Statement.{statement}
+use Rattle.recogniser.proofs.decided.Tie as tie
 
 -- an entry that no arm with a condition takes is a state
 plain : (j : Join) (r : Range) (count n : ℕ) → (((Unit {0} × (n ≡ 6 → ⊥)) × (n ≡ 7 → ⊥)) × (n ≡ 8 → ⊥)) × (n ≡ 9 → ⊥) → stateNumber (entryState j r count n) ≡ min n 5

@@ -6,12 +6,12 @@ use Prim.Native.Nat.{ℕ, zero, suc, _+_, _*_, _/_, _%_, _^_, _<_, _≤_, min}
 use native.Mathlib.Nat.{zero-add}
 use native.Mathlib.Omega.{arith}
 use lib.ListN.{getD}
 use Rattle.pattern.specs.Meaning.{Join, Range}
-use Rattle.pattern.specs.Recogniser.{State, Class, move}
-use Rattle.pattern.specs.Numbers.{stateNumber, stateOf, classNumber, classOf, joinNumber, bounds, nextState}
-use Rattle.pattern.specs.Entries.{entryState, entryIn, IsColumn}
-use Rattle.pattern.proofs.Numbers.{state-back, class-back, join-back, state-number, class-number}
-use Rattle.pattern.proofs.Table.{places, place-at, at}
+use Rattle.pattern.specs.Recogniser.{State, stateNumber, Class, move}
+use Rattle.recogniser.specs.Numbers.{stateOf, classNumber, classOf, joinNumber, bounds, nextState}
+use Rattle.recogniser.specs.Entries.{entryState, entryIn, IsColumn}
+use Rattle.recogniser.proofs.Numbers.{state-back, class-back, join-back, state-number, class-number}
+use Rattle.recogniser.proofs.Table.{places, place-at, at}
 
 -- the code's constant; the proof of `column` holds the two together
 abbrev pub columns : List ℕ
