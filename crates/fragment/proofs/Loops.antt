@@ -83,12 +83,12 @@ chosen seen name n own other a b = look (eqb seen 1 && eqb name n)
     look true = a
     look false = pick seen b
 
-pub moved-is : (seen name n own other join count s u v : ℕ) {class column y : ℕ} → IsColumn 0 own → IsColumn seen other
-    → class ≡ classAt seen name n → column ≡ cond (eqb class 0) own other → y ≡ stateNumber (entryState (joinOf join) (bounds u v) count (entryIn column s))
+pub moved-is : (seen name n own other join count s u v : ℕ) {class y : ℕ} → IsColumn 0 own → IsColumn seen other
+    → class ≡ classAt seen name n → y ≡ stateNumber (entryState (joinOf join) (bounds u v) count (entryIn (cond (eqb class 0) own other) s))
     → y ≡ nextState s class join count u v
 unfolding nextState
-moved-is seen name n own other join count s u v a b ec eo ey =
-    ey ∙ rw (eo, ec) (ap stateNumber (chosen seen name n own other a b (joinOf join) (bounds u v) count s))
+moved-is seen name n own other join count s u v a b ec ey =
+    ey ∙ rw ec (ap stateNumber (chosen seen name n own other a b (joinOf join) (bounds u v) count s))
 
 module _ (g : Ranges) (name seen : ℕ) (old : List ℕ) (was : ℕ) where
   pub record Turning (x : List ℕ) (count : ℕ) (bad idle : Bool) (i : ℕ) : Type 0 where

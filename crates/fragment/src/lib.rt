@@ -32,16 +32,6 @@ fn class_of(seen: u8, name: u8, own: u8) -> u8
     seen
 }
 
-// The column of moves for this class, of the two that a fragment needs: that of its own events, and that of an event that it has seen so.
-fn column_of(class: u8, own: u32, other: u32) -> u32
-    ensures { λ r. ⌜ r ≡ cond (eqb class 0) own other ⌝ }
-{
-    if class == 0 {
-        return own;
-    }
-    other
-}
-
 // The state after an event of this column, for a range in state s. The bounds are taken out of the range's word only where a move has a condition.
 fn moved_by(column: u32, s: u8, join: u8, count: u16, word: u64) -> u8
     ensures { λ r. ⌜ r ≡ stateNumber (entryState (joinOf join) (bounds (lowIn word) (highIn word)) count (entryIn column s)) ⌝ }
@@ -51,6 +41,16 @@ fn moved_by(column: u32, s: u8, join: u8, count: u16, word: u64) -> u8
         return entry;
     }
     recogniser::decided(entry, join, count, tables::low(word), tables::high(word))
+}
+
+// The state after an event of this class. Of a fragment's two columns, that of its own events and that of an event that it has seen so, each is looked up in a branch of its own: there it is a constant.
+fn moved(class: u8, own: u32, other: u32, s: u8, join: u8, count: u16, word: u64) -> u8
+    ensures { λ r. ⌜ r ≡ stateNumber (entryState (joinOf join) (bounds (lowIn word) (highIn word)) count (entryIn (cond (eqb class 0) own other) s)) ⌝ }
+{
+    if class == 0 {
+        return moved_by(own, s, join, count, word);
+    }
+    moved_by(other, s, join, count, word)
 }
 
 // The count after an event of this class, where a range was in state s; kept is the count of the ranges before it.
@@ -111,7 +111,7 @@ pub fn turn(
     while i < size {
         let word = ranges[base + i];
         let class = class_of(seen, name, tables::name(word));
-        let y = moved_by(column_of(class, own, other), states[i], join, count, word);
+        let y = moved(class, own, other, states[i], join, count, word);
         kept = counted(class, states[i], count, tables::high(word), kept);
         bad = or(bad, y == 5);
         idle = and(idle, y == 0);

@@ -41,14 +41,11 @@ name-requires c κs = search needs
 class-of-requires : tie.Need-class-of-requires Inv-loop μ-loop
 class-of-requires c κs = search needs
 
-column-of-requires : tie.Need-column-of-requires Inv-loop μ-loop
-column-of-requires c κs = search needs
+array-read-moved : tie.Need-array-read-moved Inv-loop μ-loop
+array-read-moved c = search needs
 
-array-read-moved-by : tie.Need-array-read-moved-by Inv-loop μ-loop
-array-read-moved-by c = search needs
-
-moved-by-requires : tie.Need-moved-by-requires Inv-loop μ-loop
-moved-by-requires c κs = search needs
+moved-requires : tie.Need-moved-requires Inv-loop μ-loop
+moved-requires c κs = search needs
 
 array-read-counted : tie.Need-array-read-counted Inv-loop μ-loop
 array-read-counted c = search needs
@@ -77,13 +74,13 @@ loop-less c = search needs
 loop-again : tie.Need-loop-again Inv-loop μ-loop
 loop-again c =
     let m = c .before .before .before .before in
-    let k = m .before .before in
+    let k = m .before in
     let l = k .before .before .before .before in (
       turning-more _ _ _ _ _ (l .loop .inv .0) (omega arith) (omega arith)
           (k .before .name .ensures)
           (k .class-of .ensures)
           (c .before .before .before .high .ensures)
-          (moved-is _ _ _ _ _ _ _ _ _ _ (l .loop .inv .2) (l .loop .inv .3) (k .class-of .ensures) (m .before .column-of .ensures) (m .moved-by .ensures))
+          (moved-is _ _ _ _ _ _ _ _ _ _ (l .loop .inv .2) (l .loop .inv .3) (k .class-of .ensures) (m .moved .ensures))
           (c .before .before .counted .ensures)
           (c .before .or .ensures)
           (c .and .ensures),
@@ -96,4 +93,4 @@ returns : tie.Need-returns Inv-loop μ-loop
 returns c = turning-end _ _ _ _ _ (c .before .loop .inv .0) (c .loop-test .left)
 
 pub turn-spec : {M : Type 1} → statement M
-turn-spec = tie.close (tie.spec Inv-loop μ-loop column-requires column-requires-2 loop-holds add-word mul-word element-copy-out-word name-requires class-of-requires column-of-requires array-read-moved-by moved-by-requires array-read-counted high-requires counted-requires or-requires and-requires array-write-x add-i loop-less loop-again returns)
+turn-spec = tie.close (tie.spec Inv-loop μ-loop column-requires column-requires-2 loop-holds add-word mul-word element-copy-out-word name-requires class-of-requires array-read-moved moved-requires array-read-counted high-requires counted-requires or-requires and-requires array-write-x add-i loop-less loop-again returns)
