@@ -29,11 +29,10 @@ module _ (p : Plan) (m : Moved) (now : ℕ) {s : Stepped} where
   unfolding stoodOf
   stands-surely g e q = rw e at q
 
-  pub stands-settled : (fragments ranges : List ℕ) (k : ℕ) {size join standing : ℕ} → m .sure ≡ false → stoodOf (rangesOf fragments ranges k) p m now ≡ s → size ≡ countIn (getD fragments k 0) → join ≡ joinIn (getD fragments k 0)
-      → standing ≡ settledOf (record { words = ranges; base = 8 * k; size = size; join = join }) p (m .state) now .standing
+  pub stands-settled : (g : Ranges) {standing : ℕ} → m .sure ≡ false → stoodOf g p m now ≡ s → standing ≡ settledOf g p (m .state) now .standing
       → record { state = m .state; standing = standing } ≡ s
-  unfolding stoodOf settledOf rangesOf
-  stands-settled fragments ranges k e q es ej ek = rw (ek, es, ej) (rw e at q)
+  unfolding stoodOf settledOf
+  stands-settled g e q ek = rw ek (rw e at q)
 
 -- ---- an event on a rule that is not released
 

@@ -31,10 +31,28 @@ pub struct Moved {
 
 // ---- how a rule stands
 
+// Every range of fragment k is over, asked by a class of events (`fragment::all_over`). The fragment's word is looked up here, since most events end where no range need be asked.
+fn over_at(fragments: &[u16; 256], ranges: &[u64; 2048], k: usize, st: RuleState, class: u8) -> bool
+    requires { ⌜ k < 256 ⌝ }
+    ensures { λ r. ⌜ r ≡ allOver (rangesOf (now (fragments .entry)) (now (ranges .entry)) k) class (st .states) (st .count) ⌝ }
+{
+    let word = fragments[k];
+    let states = st.states;
+    fragment::all_over(
+        ranges,
+        8 * k,
+        tables::ranges_in(word) as usize,
+        tables::join(word),
+        states,
+        st.count,
+        class,
+    )
+}
+
 // The rule's next event would have to be of Q and in time. The ranges are looked at only in the last fragment of P.
-fn runs(ranges: &[u64; 2048], base: usize, size: usize, join: u8, p: Plan, st: RuleState) -> bool
-    requires { ⌜ ((base ≤ 2040) × (size ≤ 8)) × (st .fragment < 16) ⌝ }
-    ensures { λ r. ⌜ r ≡ runsOf p (st .fragment) (completeOf (record { words = now (ranges .entry); base = base; size = size; join = join }) (st .states) (st .count)) (growsOf (record { words = now (ranges .entry); base = base; size = size; join = join }) (st .states) (st .count)) ⌝ }
+fn runs(fragments: &[u16; 256], ranges: &[u64; 2048], k: usize, p: Plan, st: RuleState) -> bool
+    requires { ⌜ (k < 256) × (st .fragment < 16) ⌝ }
+    ensures { λ r. ⌜ r ≡ runsOf p (st .fragment) (completeOf (rangesOf (now (fragments .entry)) (now (ranges .entry)) k) (st .states) (st .count)) (growsOf (rangesOf (now (fragments .entry)) (now (ranges .entry)) k) (st .states) (st .count)) ⌝ }
 {
     if p.kind != 2 {
         return false;
@@ -45,42 +63,39 @@ fn runs(ranges: &[u64; 2048], base: usize, size: usize, join: u8, p: Plan, st: R
     if deadline::follows(st.fragment, p.last) < p.first {
         return false;
     }
-    let states = st.states;
-    if fragment::all_over(ranges, base, size, join, states, st.count, 2) {
-        return fragment::all_over(ranges, base, size, join, states, st.count, 0);
+    if over_at(fragments, ranges, k, st, 2) {
+        return over_at(fragments, ranges, k, st, 0);
     }
     false
 }
 
 // The round is complete. The ranges are looked at only in its last fragment.
-fn whole(ranges: &[u64; 2048], base: usize, size: usize, join: u8, p: Plan, st: RuleState) -> bool
-    requires { ⌜ ((base ≤ 2040) × (size ≤ 8)) × (st .fragment < 16) ⌝ }
-    ensures { λ r. ⌜ r ≡ (completeOf (record { words = now (ranges .entry); base = base; size = size; join = join }) (st .states) (st .count) && leb (p .last) (st .fragment + 1)) ⌝ }
+fn whole(fragments: &[u16; 256], ranges: &[u64; 2048], k: usize, p: Plan, st: RuleState) -> bool
+    requires { ⌜ (k < 256) × (st .fragment < 16) ⌝ }
+    ensures { λ r. ⌜ r ≡ (completeOf (rangesOf (now (fragments .entry)) (now (ranges .entry)) k) (st .states) (st .count) && leb (p .last) (st .fragment + 1)) ⌝ }
 {
     if p.last <= st.fragment + 1 {
-        let states = st.states;
-        return fragment::all_over(ranges, base, size, join, states, st.count, 2);
+        return over_at(fragments, ranges, k, st, 2);
     }
     false
 }
 
 // How a rule stands in a state that has no error.
 fn standing(
+    fragments: &[u16; 256],
     ranges: &[u64; 2048],
-    base: usize,
-    size: usize,
-    join: u8,
+    k: usize,
     p: Plan,
     st: RuleState,
     time: u32,
 ) -> u8
-    requires { ⌜ ((base ≤ 2040) × (size ≤ 8)) × (st .fragment < 16) ⌝ }
-    ensures { λ r. ⌜ r ≡ settledOf (record { words = now (ranges .entry); base = base; size = size; join = join }) p st time .standing ⌝ }
+    requires { ⌜ (k < 256) × (st .fragment < 16) ⌝ }
+    ensures { λ r. ⌜ r ≡ settledOf (rangesOf (now (fragments .entry)) (now (ranges .entry)) k) p st time .standing ⌝ }
 {
-    if whole(ranges, base, size, join, p, st) {
+    if whole(fragments, ranges, k, p, st) {
         return 0;
     }
-    if runs(ranges, base, size, join, p, st) {
+    if runs(fragments, ranges, k, p, st) {
         return deadline::due(p, st.end, time);
     }
     1
@@ -249,9 +264,7 @@ pub fn act<'a>(
         };
     }
     let k = 16 * rule + o.fragment as usize;
-    let word = fragments[k];
-    let size = tables::ranges_in(word) as usize;
-    let s = standing(ranges, 8 * k, size, tables::join(word), p, o, time);
+    let s = standing(fragments, ranges, k, p, o, time);
     Stepped {
         state: o,
         standing: s,

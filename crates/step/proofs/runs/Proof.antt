@@ -23,27 +23,27 @@ returns-3 c =
     let p = c .before .before .before in
     rw (eq-eqb _ _ (p .before .before .before .if1 .left), lt-leb _ _ (p .if2 .left), ← c .before .before .follows .ensures, lt-leb _ _ (c .if3 .taken))
 
-all-over-requires : tie.Need-all-over-requires
-all-over-requires c κs = search needs
+over-at-requires : tie.Need-over-at-requires
+over-at-requires c κs = search needs
 
-all-over-requires-2 : tie.Need-all-over-requires-2
-all-over-requires-2 c κs = search needs
+over-at-requires-2 : tie.Need-over-at-requires-2
+over-at-requires-2 c κs = search needs
 
 returns-4 : tie.Need-returns-4
 unfolding runsOf
 returns-4 c =
     let l = c .before .before in
-    let n = l .before .before in
+    let n = l .before in
     let p = n .before .before .before in
-    rw (eq-eqb _ _ (p .before .before .before .if1 .left), lt-leb _ _ (p .if2 .left), ← n .before .before .follows .ensures, le-leb _ _ (n .if3 .left), complete-over, ← l .all-over .ensures, c .before .if4 .taken, grows-over, ← c .all-over2 .ensures)
+    rw (eq-eqb _ _ (p .before .before .before .if1 .left), lt-leb _ _ (p .if2 .left), ← n .before .before .follows .ensures, le-leb _ _ (n .if3 .left), complete-over, ← l .over-at .ensures, c .before .if4 .taken, grows-over, ← c .over-at2 .ensures)
 
 returns-5 : tie.Need-returns-5
 unfolding runsOf
 returns-5 c =
     let l = c .before in
-    let n = l .before .before in
+    let n = l .before in
     let p = n .before .before .before in
-    rw (eq-eqb _ _ (p .before .before .before .if1 .left), lt-leb _ _ (p .if2 .left), ← n .before .before .follows .ensures, le-leb _ _ (n .if3 .left), complete-over, ← l .all-over .ensures, c .if4 .left)
+    rw (eq-eqb _ _ (p .before .before .before .if1 .left), lt-leb _ _ (p .if2 .left), ← n .before .before .follows .ensures, le-leb _ _ (n .if3 .left), complete-over, ← l .over-at .ensures, c .if4 .left)
 
 pub runs-spec : {M : Type 1} → statement M
-runs-spec = tie.close (tie.spec returns returns-2 follows-requires returns-3 all-over-requires all-over-requires-2 returns-4 returns-5)
+runs-spec = tie.close (tie.spec returns returns-2 follows-requires returns-3 over-at-requires over-at-requires-2 returns-4 returns-5)
