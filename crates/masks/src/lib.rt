@@ -1,18 +1,6 @@
 // Sets of rules (document 01): "a 16-bit mask of the rules". Rule r is in a mask if bit r is set. Every mask and every number is taken: one of 16 or more is no rule,
 // and is in no mask.
-ghost use mathlib.Core.Path.{_≡_};
-ghost use Rattle.names.specs.Names.{member};
-ghost use Rattle.masks.specs.Masks.{Union, Without, With, Lowest, Less};
-
-// Whether rule r is in the mask.
-pub fn has(mask: u16, r: usize) -> bool
-    ensures { λ b. ⌜ b ≡ member mask r ⌝ }
-{
-    if 15 < r {
-        return false;
-    }
-    (mask >> r) & 1 == 1
-}
+ghost use Rattle.masks.specs.Masks.{Union, Without, Lowest, Less};
 
 // The rules of either mask.
 pub fn union(a: u16, b: u16) -> u16
@@ -26,19 +14,6 @@ pub fn without(a: u16, b: u16) -> u16
     ensures { λ left. ⌜ Without a b left ⌝ }
 {
     a & !b
-}
-
-// The mask with rule r if `on`, else the mask as it is; and as it is if r is no rule.
-pub fn with(mask: u16, r: usize, on: bool) -> u16
-    ensures { λ made. ⌜ With mask r on made ⌝ }
-{
-    if 15 < r {
-        return mask;
-    }
-    if on {
-        return mask | 1 << r;
-    }
-    mask
 }
 
 // The lowest rule of a mask that is not empty.

@@ -24,7 +24,7 @@ use Rattle.step.specs.Steps.{Tables, actOf, runsOf, standingOf, settledOf, rang
 use Rattle.step.specs.Decode.{decode}
 use Rattle.step.proofs.Status.{running, time-alone, running-is}
 use Rattle.step.proofs.Links.{statusIn, Rules, Stands, acts, past-at}
-use Rattle.rules.specs.Pass.{ruleOf, isBroken, isOpen, isDue}
+use Rattle.rules.specs.Pass.{actedOf, ruleOf, isBroken, isOpen, isDue}
 
 -- ---- a standing is one of four
 
@@ -101,7 +101,7 @@ module _ (b : Tables) (concerned r : ℕ) (rule : Rule) (h : Rules (b .fragments
 
   -- a rule that has the name
   steps : name < 64 → member concerned r ≡ true → (let s : Stepped = ruleOf b concerned r st name time in Ruled rule time (step rule S (record { name = name; time = time })) (s .state) (isBroken (s .standing)) (isOpen (s .standing)) (isDue (s .standing)))
-  unfolding ruleOf
+  unfolding ruleOf actedOf
   steps named m =
       let l = acts h time st w name named in
       let few = act-few (b .fragments) (b .names) (b .ranges) r (planOf (getD (b .heads) r 0)) st name time in

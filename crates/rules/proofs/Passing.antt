@@ -1,240 +1,316 @@
--- The loop over the rules that are looked at. `todo` is the mask of those that are left, so a rule has been seen if it is to be looked at and is not in `todo`. The states of the rules
--- seen are new, and the masks speak of those; when nothing is left, the rules seen are all that are looked at, and a mask is settled by its members.
+-- The loops over the rules of a mask. `todo` is the mask of those that are left, so a rule has been seen if it is in the mask `who` and not in `todo`. The three masks of the word `all`
+-- speak of the rules seen; where they step, the states of those are new. When nothing is left, the rules seen are all of `who`, and a mask is settled by its members.
 -- Assumes nothing.
-use mathlib.Core.Path.{_≡_, refl, sym, ap, _∙_, subst}
+use mathlib.Core.Path.{_≡_, refl, sym, ap, _∙_}
 use mathlib.Core.Bool.{Bool, true, false, cond, not, _&&_, _||_, and-true, and-false, or-false, or-self, and-not-self}
-use mathlib.Core.List.{List, [], _∷_}
-use Prim.Native.Nat.{ℕ, zero, suc, _+_, _%_, _^_, _<_}
+use mathlib.Core.List.{List}
+use Prim.Native.Nat.{ℕ, _+_, _*_, _/_, _%_, _^_, _<_}
 use native.Mathlib.Nat.{zero-add}
 use native.Mathlib.Omega.{arith}
+use lib.Bits.{bitOr, or-zero-r, or-mod, or-shr}
 use lib.Dec.{eqb}
 use lib.ListN.{length, getD, set}
-use lib.Seq.{set-getD}
+use lib.Pow.{pow-lt, shl-exact}
 use borrow.Author.Tests.{eqb-true, eq-eqb, ne-eqb, lt-ltb}
 use Rattle.names.specs.Names.{member}
+use Rattle.names.proofs.Digits.{member-or, member-power}
 use Rattle.names.proofs.Sets.{member-empty}
-use Rattle.masks.specs.Masks.{maskN, Union, Without, With, Less}
+use Rattle.masks.specs.Masks.{maskN, isRule, Union, Without, With, Less}
 use Rattle.masks.proofs.Members.{mask-is}
 use Rattle.step.specs.declared.RuleState.{RuleState}
 use Rattle.step.specs.declared.Stepped.{Stepped}
 use Rattle.fragment.specs.Upto.{mapN}
 use Rattle.step.specs.Steps.{Tables}
 use Rattle.words.specs.Words.{noState, rulesIn, Stores}
-use Rattle.words.proofs.Laws.{sixteen}
-use Rattle.rules.specs.Pass.{Pass, Steps, ruleOf, isBroken, isOpen, isDue, touched, stepOf, standingAt, stateAt, brokenAt, openAt, dueAt, passOf}
-use Rattle.words.proofs.Places.{getD-any, mapN-alike, mapN-same, set-mapN, getD-mapN}
+use Rattle.words.proofs.Laws.{middle, upper}
+use Rattle.words.proofs.Places.{mapN-alike, mapN-same, set-mapN, getD-mapN}
+use Rattle.rules.specs.declared.Masks.{Masks}
+use Rattle.rules.specs.Pass.{Pass, Marks, Notes, Waits, Tells, Steps, StepsAll, Passes, brokenIn, openIn, dueIn, marksOf, stepsAt, actedOf, waitedOf, ruleOf, isBroken, isOpen, isDue, stateAt, brokenAt, openAt, dueAt, passOf}
 
--- ---- tests
+-- ---- one rule's marks
+
+-- a word of three numbers, each shifted or left out
+spread : (b o d : Bool) (p : ℕ) → (cond b 1 0 + 65536 * cond o 1 0 + 4294967296 * cond d 1 0) * p ≡ cond b p 0 + 65536 * cond o p 0 + 4294967296 * cond d p 0
+spread true true true p = omega arith
+spread true true false p = omega arith
+spread true false true p = omega arith
+spread true false false p = omega arith
+spread false true true p = omega arith
+spread false true false p = omega arith
+spread false false true p = omega arith
+spread false false false p = omega arith
+
+below : (b : Bool) (p n : ℕ) → p < n → cond b p 0 < n
+below true p n h = h
+below false p n h = omega arith
+
+small : (b o d : Bool) → cond b 1 0 + 65536 * cond o 1 0 + 4294967296 * cond d 1 0 < 2 ^ 33
+small true true true = omega arith
+small true true false = omega arith
+small true false true = omega arith
+small true false false = omega arith
+small false true true = omega arith
+small false true false = omega arith
+small false false true = omega arith
+small false false false = omega arith
+
+-- a mask that got rule r if `on`
+with-rule : (on : Bool) (mask r made : ℕ) → r < 16 → made ≡ bitOr mask (cond on (2 ^ r) 0) → With mask r on made
+with-rule true mask r made h e = record {
+  members = λ k. ap (λ (m : ℕ). member m k) e ∙ member-or mask (2 ^ r) k ∙ ap (λ (t : Bool). member mask k || t) (member-power r k)
+      ∙ ap (λ (t : Bool). member mask k || t && eqb k r) (sym (lt-ltb r 16 h));
+}
+with-rule false mask r made h e = record { members = λ k. ap (λ (m : ℕ). member m k) (e ∙ or-zero-r mask) ∙ sym (or-false (member mask k)) }
+
+module _ (all r k : ℕ) (rule : r < 16) where
+  abbrev b : ℕ
+  b = cond (isBroken k) (2 ^ r) 0
+
+  abbrev o : ℕ
+  o = cond (isOpen k) (2 ^ r) 0
+
+  abbrev d : ℕ
+  d = cond (isDue k) (2 ^ r) 0
+
+  pub marks-or : {made : ℕ} → made ≡ bitOr all (marksOf k * 2 ^ r % 2 ^ 64) → Marks all r k made
+  unfolding marksOf
+  marks-or {made} e =
+      let p : 2 ^ r < 65536 = pow-lt rule in
+      let hb : b < 65536 = below (isBroken k) (2 ^ r) 65536 p in
+      let ho : o < 65536 = below (isOpen k) (2 ^ r) 65536 p in
+      let hd : d < 65536 = below (isDue k) (2 ^ r) 65536 p in
+      let x : ℕ = b + 65536 * o + 4294967296 * d in
+      let f : made ≡ bitOr all x =
+      e ∙ ap (bitOr all) (shl-exact 33 r 64 (small (isBroken k) (isOpen k) (isDue k)) (omega arith) ∙ spread (isBroken k) (isOpen k) (isDue k) (2 ^ r)) in
+      let fb : x % 65536 ≡ b = omega arith in
+      let fo : x / 65536 % 65536 ≡ o = middle b o d x hb ho (omega arith) in
+      let fd : x / 4294967296 % 65536 ≡ d = upper (b + 65536 * o) d x (omega arith) hd (omega arith) in
+      record {
+        broke = with-rule (isBroken k) (brokenIn all) r (brokenIn made) rule (ap brokenIn f ∙ or-mod all x 16 ∙ ap (bitOr (brokenIn all)) fb);
+        opened = with-rule (isOpen k) (openIn all) r (openIn made) rule
+            (ap openIn f ∙ ap (λ (y : ℕ). y % 65536) (or-shr all x 16) ∙ or-mod (all / 65536) (x / 65536) 16 ∙ ap (bitOr (openIn all)) fo);
+        due = with-rule (isDue k) (dueIn all) r (dueIn made) rule
+            (ap dueIn f ∙ ap (λ (y : ℕ). y % 65536) (or-shr all x 32) ∙ or-mod (all / 4294967296) (x / 4294967296) 16 ∙ ap (bitOr (dueIn all)) fd);
+      }
+
+-- ---- one rule's new state is stored
+
+pub steps-stored : (x s : Stepped) {r : ℕ} {before after : List ℕ} → r < 16 → s ≡ x → (length before ≡ 34 → Stores before (r % 16) (s .state) after)
+    → Steps x r before (s .standing) after
+steps-stored x s {r} {before} h e st =
+    let own : r % 16 ≡ r = omega arith in
+    record {
+      stands = ap (λ (y : Stepped). y .standing) e;
+      long = λ l. st l .long;
+      moves = λ l. st l .rules ∙ ap (λ (i : ℕ). set (rulesIn before) i (s .state)) own ∙ ap (λ (y : Stepped). set (rulesIn before) r (y .state)) e;
+    }
+
+-- ---- the rules of a mask, one by one
 
 -- a rule that leaves `todo`: t if it is this one, m if it was in `todo`, u if it is to be looked at
 leaves : (t m u : Bool) → (t ≡ true → u ≡ true) → (u && not (m && not t)) ≡ (t || u && not m)
 leaves true m u h = rw (h refl, and-false m)
 leaves false m u h = rw (and-true m)
 
--- a mask of the rules seen that pass a test, and one rule more
-gathers : (t x p on : Bool) → (t ≡ true → on ≡ p) → (x && p || on && (true && t)) ≡ ((t || x) && p)
-gathers true true p on h = rw (h refl, and-true p, or-self p)
-gathers true false p on h = and-true on ∙ h refl
-gathers false x p on h = rw (and-false on, or-false (x && p))
-
--- the same where the other rules pass a test q
-keeps : (t x p q on : Bool) → (t ≡ true → on ≡ p) → (t ≡ true → q ≡ false) → (cond x p q || on && (true && t)) ≡ cond (t || x) p q
-keeps true true p q on h g = rw (h refl, and-true p, or-self p)
-keeps true false p q on h g = rw (g refl, h refl, and-true p)
-keeps false x p q on h g = rw (and-false on, or-false (cond x p q))
-
-settles : (t p q : Bool) → cond t p (q && not t) ≡ cond t p q
-settles true p q = refl
-settles false p q = and-true q
+-- a mask of those noted before and of the rules seen that pass a test, and one rule more
+gathers : (t x p on n : Bool) → (t ≡ true → on ≡ p) → ((n || x && p) || on && (true && t)) ≡ (n || (t || x) && p)
+gathers t x p on true h = refl
+gathers true true p on false h = rw (h refl, and-true p, or-self p)
+gathers true false p on false h = and-true on ∙ h refl
+gathers false x p on false h = rw (and-false on, or-false (x && p))
 
 first : (x y : Bool) → (x && y) ≡ true → x ≡ true
 first true y h = refl
 first false y h = h
 
+module _ (noted who : ℕ) (stands : ℕ → ℕ) where
+  -- the rules that have been seen
+  abbrev seen : ℕ → ℕ → Bool
+  seen todo k = member who k && not (member todo k)
+
+  pub record Noting (todo all : ℕ) : Type 0 where
+    pub within : (k : ℕ) → member todo k ≡ true → member who k ≡ true
+    pub broke : (k : ℕ) → member (brokenIn all) k ≡ (member (brokenIn noted) k || seen todo k && isBroken (stands k))
+    pub opened : (k : ℕ) → member (openIn all) k ≡ (member (openIn noted) k || seen todo k && isOpen (stands k))
+    pub due : (k : ℕ) → member (dueIn all) k ≡ (member (dueIn noted) k || seen todo k && isDue (stands k))
+
+  none-seen : (x : Bool) (t : Bool) (k : ℕ) → x ≡ (x || seen who k && t)
+  none-seen x t k = rw (and-not-self (member who k)) (sym (or-false x))
+
+  pub noting-start : Noting who noted
+  noting-start = record {
+    within = λ k h. h;
+    broke = λ k. none-seen (member (brokenIn noted) k) (isBroken (stands k)) k;
+    opened = λ k. none-seen (member (openIn noted) k) (isOpen (stands k)) k;
+    due = λ k. none-seen (member (dueIn noted) k) (isDue (stands k)) k;
+  }
+
+  -- one turn: rule r leaves `todo`
+  module _ {todo todo′ r : ℕ} (within : (k : ℕ) → member todo k ≡ true → member who k ≡ true) (inside : member todo r ≡ true) (left : Less todo r todo′) where
+    seen-more : (k : ℕ) → seen todo′ k ≡ (eqb k r || seen todo k)
+    seen-more k =
+        ap (λ (m : Bool). member who k && not m) (left .members k)
+        ∙ leaves (eqb k r) (member todo k) (member who k) (λ e. ap (member who) (eqb-true k r e) ∙ within r inside)
+
+    pub seen-other : (k : ℕ) → (k ≡ r → ⊥) → seen todo′ k ≡ seen todo k
+    seen-other k n = seen-more k ∙ ap (λ (t : Bool). t || seen todo k) (ne-eqb k r n)
+
+    pub seen-this : seen todo′ r ≡ true
+    seen-this = seen-more r ∙ ap (λ (t : Bool). t || seen todo r) (eq-eqb r r refl)
+
+    gathers-more : (P : ℕ → Bool) (n m m′ s : ℕ) → r < 16 → s ≡ stands r → With m r (P s) m′
+        → ((k : ℕ) → member m k ≡ (member n k || seen todo k && P (stands k))) → (k : ℕ) → member m′ k ≡ (member n k || seen todo′ k && P (stands k))
+    gathers-more P n m m′ s rule e w h k =
+        w .members k ∙ ap (λ (t : Bool). member m k || P s && (t && eqb k r)) (lt-ltb r 16 rule)
+        ∙ ap (λ (t : Bool). t || P s && (true && eqb k r)) (h k)
+        ∙ gathers (eqb k r) (seen todo k) (P (stands k)) (P s) (member n k) (λ f. ap P (e ∙ ap stands (sym (eqb-true k r f))))
+        ∙ ap (λ (t : Bool). member n k || t && P (stands k)) (sym (seen-more k))
+
+  pub noting-more : {todo todo′ all made r s : ℕ} → Noting todo all → member todo r ≡ true → r < 16 → Less todo r todo′ → s ≡ stands r → Marks all r s made → Noting todo′ made
+  noting-more {todo} {todo′} {all} {made} {r} {s} p inside rule left e w = record {
+    within = λ k h. p .within k (first (member todo k) (not (eqb k r)) (sym (left .members k) ∙ h));
+    broke = gathers-more (p .within) inside left isBroken (brokenIn noted) (brokenIn all) (brokenIn made) s rule e (w .broke) (p .broke);
+    opened = gathers-more (p .within) inside left isOpen (openIn noted) (openIn all) (openIn made) s rule e (w .opened) (p .opened);
+    due = gathers-more (p .within) inside left isDue (dueIn noted) (dueIn all) (dueIn made) s rule e (w .due) (p .due);
+  }
+
+  all-seen : {todo : ℕ} → todo ≡ 0 → (k : ℕ) → seen todo k ≡ member who k
+  all-seen e k = ap (λ (t : Bool). member who k && not t) (ap (λ (m : ℕ). member m k) e ∙ member-empty k) ∙ and-true (member who k)
+
+  -- nothing is left
+  pub noting-end : {todo all : ℕ} → Noting todo all → todo ≡ 0 → Notes noted who stands all
+  noting-end p e = record {
+    broke = λ k. p .broke k ∙ ap (λ (t : Bool). member (brokenIn noted) k || t && isBroken (stands k)) (all-seen e k);
+    opened = λ k. p .opened k ∙ ap (λ (t : Bool). member (openIn noted) k || t && isOpen (stands k)) (all-seen e k);
+    due = λ k. p .due k ∙ ap (λ (t : Bool). member (dueIn noted) k || t && isDue (stands k)) (all-seen e k);
+  }
+
+-- ---- where they step
+
+module _ (b : Tables) (noted who name time : ℕ) (old : List RuleState) where
+  abbrev stands : ℕ → ℕ
+  stands k = actedOf b k (getD old k noState) name time .standing
+
+  abbrev seenState : ℕ → ℕ → RuleState → RuleState
+  seenState todo k st = cond (seen noted who stands todo k) (actedOf b k st name time .state) st
+
+  pub record Stepping (rules : List RuleState) (todo all : ℕ) : Type 0 where
+    pub sixteen : length old ≡ 16
+    pub states : rules ≡ mapN (seenState todo) 0 16 old
+    pub notes : Noting noted who stands todo all
+
+  pub stepping-start : length old ≡ 16 → Stepping old who noted
+  stepping-start l = record {
+    sixteen = l;
+    states = sym (mapN-same (seenState who) 0 16 old (λ k st. ap (λ (t : Bool). cond t (actedOf b k st name time .state) st) (and-not-self (member who k))));
+    notes = noting-start noted who stands;
+  }
+
+  -- a rule that is left stands as it did
+  left-alone : {rules : List RuleState} {todo all r : ℕ} → Stepping rules todo all → member todo r ≡ true → r < 16 → getD rules r noState ≡ getD old r noState
+  left-alone {rules} {todo} {all} {r} p inside h =
+      let unseen : seen noted who stands todo (0 + r) ≡ false = rw (ap (member todo) (zero-add r) ∙ inside) (and-false (member who (0 + r))) in
+      ap (λ (l : List RuleState). getD l r noState) (p .states) ∙ getD-mapN (seenState todo) noState 0 16 old r h (omega (arith, p .sixteen))
+      ∙ ap (λ (t : Bool). cond t (actedOf b (0 + r) (getD old r noState) name time .state) (getD old r noState)) unseen
+
+  pub stepping-more : {before after : List ℕ} {todo todo′ all made r s : ℕ} → Stepping (rulesIn before) todo all → member todo r ≡ true → r < 16 → Less todo r todo′
+      → Steps (actedOf b r (getD (rulesIn before) r noState) name time) r before s after → length before ≡ 34 → Marks all r s made → Stepping (rulesIn after) todo′ made
+  stepping-more {before} {after} {todo} {todo′} {all} {made} {r} {s} p inside rule left st l w =
+      let was : getD (rulesIn before) r noState ≡ getD old r noState = left-alone p inside rule in
+      let within : (k : ℕ) → member todo k ≡ true → member who k ≡ true = p .notes .within in
+      let this : actedOf b r (getD (rulesIn before) r noState) name time .state ≡ seenState todo′ r (getD old r noState) =
+      ap (λ (x : RuleState). actedOf b r x name time .state) was
+      ∙ sym (ap (λ (t : Bool). cond t (actedOf b r (getD old r noState) name time .state) (getD old r noState)) (seen-this noted who stands within inside left)) in
+      record {
+        sixteen = p .sixteen;
+        states = st .moves l ∙ ap (λ (rules : List RuleState). set rules r (actedOf b r (getD (rulesIn before) r noState) name time .state)) (p .states)
+            ∙ ap (set (mapN (seenState todo) 0 16 old) r) this
+            ∙ set-mapN (seenState todo) (seenState todo′) 16 r old noState rule (omega (arith, p .sixteen))
+            (λ j x n. ap (λ (t : Bool). cond t (actedOf b j x name time .state) x) (sym (seen-other noted who stands within inside left j n)));
+        notes = noting-more noted who stands (p .notes) inside rule left (st .stands ∙ ap (λ (x : RuleState). actedOf b r x name time .standing) was) w;
+      }
+
+  pub stepping-end : {rules : List RuleState} {todo all : ℕ} → Stepping rules todo all → todo ≡ 0 → rules ≡ mapN (stepsAt b who name time) 0 16 old
+  stepping-end {rules} {todo} p e =
+      p .states
+      ∙ mapN-alike (seenState todo) (stepsAt b who name time) 0 16 old (λ k st h. ap (λ (t : Bool). cond t (actedOf b k st name time .state) st) (all-seen noted who stands e k))
+
+-- ---- one observation
+
+-- the rules held to a deadline and those that step, as those that are looked at; c if a rule has the name, d if its deadline runs
+either : (c d : Bool) (x y : Stepped) (P : ℕ → Bool) → ((false || (d && not c) && P (y .standing)) || c && P (x .standing)) ≡ ((c || d) && P (cond c x y .standing))
+either true true x y P = refl
+either true false x y P = refl
+either false true x y P = or-false (P (y .standing))
+either false false x y P = refl
+
+opens-either : (c d o : Bool) (x y : Stepped) (P : ℕ → Bool)
+    → (o && not (c || d) || ((false || (d && not c) && P (y .standing)) || c && P (x .standing))) ≡ cond (c || d) (P (cond c x y .standing)) o
+opens-either true d o x y P = rw (and-false o, and-false d)
+opens-either false true o x y P = rw (and-false o, or-false (P (y .standing)))
+opens-either false false o x y P = rw (and-true o, or-false o)
+
+state-either : (c d : Bool) (x : Stepped) (st : RuleState) (standing : ℕ) → cond c (x .state) st ≡ cond (c || d) (cond c x (record { state = st; standing = standing }) .state) st
+state-either true d x st k = refl
+state-either false true x st k = refl
+state-either false false x st k = refl
+
 made : {rules rules′ : List RuleState} {br op du br′ op′ du′ : ℕ} → rules ≡ rules′ → br ≡ br′ → op ≡ op′ → du ≡ du′
     → _≡_ {A = Pass} (record { rules = rules; broken = br; opens = op; dues = du }) (record { rules = rules′; broken = br′; opens = op′; dues = du′ })
 made a b c d = rw (a, b, c, d)
 
--- ---- one rule, in the words
+module _ (b : Tables) (concerned opens dues name time : ℕ) (before after : List ℕ) where
+  abbrev old : List RuleState
+  old = rulesIn before
 
-module _ (b : Tables) (concerned r name time : ℕ) (before after : List ℕ) (s : Stepped) (rule : r < 16)
-    (stepped : s ≡ ruleOf b concerned r (getD (rulesIn before) (r % 16) noState) name time) where
-  own : r % 16 ≡ r
-  own = omega arith
+  abbrev acted : ℕ → Stepped
+  acted k = actedOf b k (getD old k noState) name time
 
-  stepped-own : s ≡ ruleOf b concerned r (getD (rulesIn before) r noState) name time
-  stepped-own = stepped ∙ ap (λ (i : ℕ). ruleOf b concerned r (getD (rulesIn before) i noState) name time) own
+  abbrev waits : ℕ → Stepped
+  waits k = waitedOf (b .heads) k (getD old k noState) time
 
-  -- its new state is stored
-  pub steps-stored : (length before ≡ 34 → Stores before (r % 16) (s .state) after) → Steps b concerned r name time before (s .standing) after
-  steps-stored st = record {
-    stands = ap (λ (x : Stepped). x .standing) stepped-own;
-    long = λ l. st l .long;
-    moves = λ l. st l .rules ∙ ap (λ (i : ℕ). set (rulesIn before) i (s .state)) own ∙ ap (λ (x : Stepped). set (rulesIn before) r (x .state)) stepped-own;
-  }
-
-  -- its state is what it was
-  pub steps-kept : s .state ≡ getD (rulesIn before) (r % 16) noState → Steps b concerned r name time before (s .standing) before
-  steps-kept e = record {
-    stands = ap (λ (x : Stepped). x .standing) stepped-own;
-    long = λ l. l;
-    moves = λ l.
-        sym (ap (λ (x : Stepped). set (rulesIn before) r (x .state)) (sym stepped-own) ∙ ap (set (rulesIn before) r) (e ∙ ap (λ (i : ℕ). getD (rulesIn before) i noState) own)
-        ∙ set-getD (rulesIn before) r noState);
-  }
-
--- ---- the loop
-
-module _ (b : Tables) (concerned opens dues : ℕ) (old : List RuleState) (name time : ℕ) where
-  -- the rules that are looked at, what becomes of one, and how it then stands
-  abbrev looks : ℕ → Bool
-  looks = touched b concerned opens dues old name time
-
-  abbrev step : ℕ → RuleState → Stepped
-  step = stepOf b concerned opens dues old name time
-
-  abbrev stands : ℕ → ℕ
-  stands = standingAt b concerned opens dues old name time
-
-  -- the rules that have been seen, and their states
-  abbrev seen : ℕ → ℕ → Bool
-  seen todo k = looks k && not (member todo k)
-
-  abbrev seenState : ℕ → ℕ → RuleState → RuleState
-  seenState todo k st = cond (seen todo k) (step k st .state) st
-
-  pub record Passing (rules : List RuleState) (br op du todo : ℕ) : Type 0 where
-    pub sixteen : length old ≡ 16
-    pub broke< : br < 2 ^ 16
-    pub opened< : op < 2 ^ 16
-    pub due< : du < 2 ^ 16
-    pub looked : (k : ℕ) → member todo k ≡ true → looks k ≡ true
-    pub states : rules ≡ mapN (seenState todo) 0 16 old
-    pub broke : (k : ℕ) → member br k ≡ (seen todo k && isBroken (stands k))
-    pub opened : (k : ℕ) → member op k ≡ cond (seen todo k) (isOpen (stands k)) (member opens k && not (looks k))
-    pub due : (k : ℕ) → member du k ≡ (seen todo k && isDue (stands k))
-
-  none-seen : (todo : ℕ) → Union concerned dues todo → (k : ℕ) → seen todo k ≡ false
-  none-seen todo u k = ap (λ (t : Bool). looks k && not t) (u .members k) ∙ and-not-self (looks k)
-
-  pub passing-start : {op todo : ℕ} → length old ≡ 16 → Union concerned dues todo → Without opens todo op → op < 2 ^ 16 → Passing old 0 op 0 todo
-  passing-start {op} {todo} l u w h =
+  pub looks : {who touched left held all : ℕ} {p : Masks} → Without dues concerned who → Waits (b .heads) who time old held → StepsAll b held concerned name time before all after
+      → Union concerned dues touched → Without opens touched left → Tells all left p → Passes b concerned opens dues name time before p after
+  unfolding passOf ruleOf
+  looks {who} {touched} {left} {held} {all} {p} w h s u l t =
+      let members : (f : ℕ → ℕ) (P : ℕ → Bool) → ((k : ℕ) → member (f held) k ≡ (member (f 0) k || member who k && P (waits k .standing)))
+      → ((k : ℕ) → member (f all) k ≡ (member (f held) k || member concerned k && P (acted k .standing))) → f 0 ≡ 0
+      → (k : ℕ) → member (f all) k ≡ ((false || (member dues k && not (member concerned k)) && P (waits k .standing)) || member concerned k && P (acted k .standing)) =
+      λ f P x y z k. y k ∙ ap (λ (t : Bool). t || member concerned k && P (acted k .standing))
+      (x k ∙ ap (λ (t : Bool). t || member who k && P (waits k .standing)) (ap (λ (m : ℕ). member m k) z ∙ member-empty k)
+      ∙ ap (λ (t : Bool). false || t && P (waits k .standing)) (w .members k)) in
       record {
-        sixteen = l;
-        broke< = omega arith;
-        opened< = h;
-        due< = omega arith;
-        looked = λ k h. sym (u .members k) ∙ h;
-        states = sym (mapN-same (seenState todo) 0 16 old (λ k st. ap (λ (t : Bool). cond t (step k st .state) st) (none-seen todo u k)));
-        broke = λ k. rw (none-seen todo u k) (member-empty k);
-        opened = λ k. rw (none-seen todo u k) (w .members k ∙ ap (λ (t : Bool). member opens k && not t) (u .members k));
-        due = λ k. rw (none-seen todo u k) (member-empty k);
+        long = s .long;
+        passes = λ n.
+            let notes = s .notes n in
+            made (s .moves n ∙ mapN-alike (stepsAt b concerned name time) (stateAt b concerned opens dues old name time) 0 16 old
+            (λ k st m. state-either (member concerned k) (member dues k) (actedOf b k st name time) st _))
+            (t .broke ∙ mask-is 16 (brokenIn all) (brokenAt b concerned opens dues old name time) (omega arith)
+            (λ k m. members brokenIn isBroken (h .broke) (notes .broke) refl k ∙ either (member concerned k) (member dues k) (acted k) (waits k) isBroken))
+            (mask-is 16 (p .opens) (openAt b concerned opens dues old name time) (t .opened<)
+            (λ k m. t .opened .members k ∙ ap (λ (x : Bool). x || member (openIn all) k) (l .members k ∙ ap (λ (x : Bool). member opens k && not x) (u .members k))
+            ∙ ap (λ (x : Bool). member opens k && not (member concerned k || member dues k) || x) (members openIn isOpen (h .opened) (notes .opened) refl k)
+            ∙ opens-either (member concerned k) (member dues k) (member opens k) (acted k) (waits k) isOpen))
+            (t .due ∙ mask-is 16 (dueIn all) (dueAt b concerned opens dues old name time) (omega arith)
+            (λ k m. members dueIn isDue (h .due) (notes .due) refl k ∙ either (member concerned k) (member dues k) (acted k) (waits k) isDue));
       }
 
-  -- a rule that is left stands as it did
-  pub left-alone : {rules : List RuleState} {br op du todo r : ℕ} → Passing rules br op du todo → member todo r ≡ true → r < 16 → getD rules r noState ≡ getD old r noState
-  left-alone {rules} {br} {op} {du} {todo} {r} p inside h =
-      let unseen : seen todo (0 + r) ≡ false = rw (ap (member todo) (zero-add r) ∙ inside) (and-false (looks (0 + r))) in
-      ap (λ (l : List RuleState). getD l r noState) (p .states) ∙ getD-mapN (seenState todo) noState 0 16 old r h (omega (arith, p .sixteen))
-      ∙ ap (λ (t : Bool). cond t (step (0 + r) (getD old r noState) .state) (getD old r noState)) unseen
+-- no rule has the name: none steps
+pub none-step : (b : Tables) (held name time : ℕ) (before : List ℕ) → StepsAll b held 0 name time before held before
+none-step b held name time before =
+    let stands : ℕ → ℕ = λ k. actedOf b k (getD (rulesIn before) k noState) name time .standing in
+    record {
+      long = λ l. l;
+      moves = λ l. sym (mapN-same (stepsAt b 0 name time) 0 16 (rulesIn before) (λ k st. ap (λ (t : Bool). cond t (actedOf b k st name time .state) st) (member-empty k)));
+      notes = λ l. record {
+        broke = λ k. sym (ap (λ (t : Bool). member (brokenIn held) k || t && isBroken (stands k)) (member-empty k) ∙ or-false (member (brokenIn held) k));
+        opened = λ k. sym (ap (λ (t : Bool). member (openIn held) k || t && isOpen (stands k)) (member-empty k) ∙ or-false (member (openIn held) k));
+        due = λ k. sym (ap (λ (t : Bool). member (dueIn held) k || t && isDue (stands k)) (member-empty k) ∙ or-false (member (dueIn held) k));
+      };
+    }
 
-  -- one turn: rule r leaves `todo`
-  module _ {rules : List RuleState} {br op du todo todo′ r : ℕ} {s : Stepped} (d : RuleState)
-      (p : Passing rules br op du todo) (inside : member todo r ≡ true) (rule : r < 16) (left : Less todo r todo′)
-      (stepped : s ≡ ruleOf b concerned r (getD old r d) name time) where
-    stepped-at : s ≡ step r (getD old r noState)
-    stepped-at = stepped ∙ ap (λ (st : RuleState). step r st) (getD-any old r d noState (omega (arith, p .sixteen)))
+pub all-without-none : (a : ℕ) → Without a 0 a
+all-without-none a = record { members = λ k. sym (ap (λ (t : Bool). member a k && not t) (member-empty k) ∙ and-true (member a k)) }
 
-    looks-at : (k : ℕ) → eqb k r ≡ true → looks k ≡ true
-    looks-at k e = ap looks (eqb-true k r e) ∙ p .looked r inside
-
-    stands-at : (k : ℕ) → eqb k r ≡ true → s .standing ≡ stands k
-    stands-at k e = ap (λ (x : Stepped). x .standing) stepped-at ∙ ap stands (sym (eqb-true k r e))
-
-    seen-more : (k : ℕ) → seen todo′ k ≡ (eqb k r || seen todo k)
-    seen-more k = ap (λ (m : Bool). looks k && not m) (left .members k) ∙ leaves (eqb k r) (member todo k) (looks k) (looks-at k)
-
-    seen-other : (k : ℕ) → (k ≡ r → ⊥) → seen todo′ k ≡ seen todo k
-    seen-other k n = seen-more k ∙ ap (λ (t : Bool). t || seen todo k) (ne-eqb k r n)
-
-    seen-this : seen todo′ r ≡ true
-    seen-this = seen-more r ∙ ap (λ (t : Bool). t || seen todo r) (eq-eqb r r refl)
-
-    state-this : s .state ≡ seenState todo′ r (getD old r d)
-    state-this =
-        ap (λ (x : Stepped). x .state) stepped ∙ sym (ap (λ (t : Bool). cond t (step r (getD old r d) .state) (getD old r d)) seen-this)
-
-    states-more : set rules r (s .state) ≡ mapN (seenState todo′) 0 16 old
-    states-more =
-        rw (p .states, state-this)
-        (set-mapN (seenState todo) (seenState todo′) 16 r old d rule (omega (arith, p .sixteen))
-        (λ j x n. ap (λ (t : Bool). cond t (step j x .state) x) (sym (seen-other j n))))
-
-    -- the members of a mask that got rule r if `on`
-    with-this : (m m′ : ℕ) (on : Bool) → With m r on m′ → (k : ℕ) → member m′ k ≡ (member m k || on && (true && eqb k r))
-    with-this m m′ on w k = w .members k ∙ ap (λ (t : Bool). member m k || on && (t && eqb k r)) (lt-ltb r 16 rule)
-
-    gathers-more : (P : ℕ → Bool) (m m′ : ℕ) (on : Bool) → on ≡ P (s .standing) → With m r on m′
-        → ((k : ℕ) → member m k ≡ (seen todo k && P (stands k))) → (k : ℕ) → member m′ k ≡ (seen todo′ k && P (stands k))
-    gathers-more P m m′ on e w h k =
-        with-this m m′ on w k ∙ ap (λ (t : Bool). t || on && (true && eqb k r)) (h k)
-        ∙ gathers (eqb k r) (seen todo k) (P (stands k)) on (λ f. e ∙ ap P (stands-at k f))
-        ∙ ap (λ (t : Bool). t && P (stands k)) (sym (seen-more k))
-
-    keeps-more : (m′ : ℕ) (on : Bool) → on ≡ isOpen (s .standing) → With op r on m′
-        → (k : ℕ) → member m′ k ≡ cond (seen todo′ k) (isOpen (stands k)) (member opens k && not (looks k))
-    keeps-more m′ on e w k =
-        let q : Bool = member opens k && not (looks k) in
-        with-this op m′ on w k ∙ ap (λ (t : Bool). t || on && (true && eqb k r)) (p .opened k)
-        ∙ keeps (eqb k r) (seen todo k) (isOpen (stands k)) q on (λ f. e ∙ ap isOpen (stands-at k f))
-        (λ f. ap (λ (t : Bool). member opens k && not t) (looks-at k f) ∙ and-false (member opens k))
-        ∙ ap (λ (t : Bool). cond t (isOpen (stands k)) q) (sym (seen-more k))
-
-    pub passing-more : {br′ op′ du′ : ℕ} {isBr isOp isDu : Bool} → isBr ≡ isBroken (s .standing) → With br r isBr br′ → br′ < 2 ^ 16
-        → isOp ≡ isOpen (s .standing) → With op r isOp op′ → op′ < 2 ^ 16 → isDu ≡ isDue (s .standing) → With du r isDu du′ → du′ < 2 ^ 16
-        → Passing (set rules r (s .state)) br′ op′ du′ todo′
-    passing-more {br′} {op′} {du′} {isBr} {isOp} {isDu} eb wb hb eo wo ho ed wd hd =
-        record {
-          sixteen = p .sixteen;
-          broke< = hb;
-          opened< = ho;
-          due< = hd;
-          looked = λ k h. p .looked k (first (member todo k) (not (eqb k r)) (sym (left .members k) ∙ h));
-          states = states-more;
-          broke = gathers-more isBroken br br′ isBr eb wb (p .broke);
-          opened = keeps-more op′ isOp eo wo;
-          due = gathers-more isDue du du′ isDu ed wd (p .due);
-        }
-
-  -- the same turn, in the words
-  pub passing-next : {before after : List ℕ} {br op du todo todo′ r k : ℕ} → Passing (rulesIn before) br op du todo → member todo r ≡ true → r < 16 → Less todo r todo′
-      → Steps b concerned r name time before k after → length before ≡ 34 → {br′ op′ du′ : ℕ} {isBr isOp isDu : Bool} → isBr ≡ isBroken k → With br r isBr br′ → br′ < 2 ^ 16
-      → isOp ≡ isOpen k → With op r isOp op′ → op′ < 2 ^ 16 → isDu ≡ isDue k → With du r isDu du′ → du′ < 2 ^ 16
-      → Passing (rulesIn after) br′ op′ du′ todo′
-  passing-next {before} {after} {todo′ = todo′} {r = r} {k = k} p inside rule left st l {br′} {op′} {du′} eb wb hb eo wo ho ed wd hd =
-      let was : getD (rulesIn before) r noState ≡ getD old r noState = left-alone p inside rule in
-      let s : Stepped = ruleOf b concerned r (getD old r noState) name time in
-      let stand : k ≡ s .standing = st .stands ∙ ap (λ (x : RuleState). ruleOf b concerned r x name time .standing) was in
-      let next : rulesIn after ≡ set (rulesIn before) r (s .state) = st .moves l ∙ ap (λ (x : RuleState). set (rulesIn before) r (ruleOf b concerned r x name time .state)) was in
-      subst (λ (rules : List RuleState). Passing rules br′ op′ du′ todo′) (sym next)
-      (passing-more noState p inside rule left refl (eb ∙ ap isBroken stand) wb hb (eo ∙ ap isOpen stand) wo ho (ed ∙ ap isDue stand) wd hd)
-
-  -- nothing is left
-  pub passing-end : {rules : List RuleState} {br op du todo : ℕ} → Passing rules br op du todo → todo ≡ 0
-      → record { rules = rules; broken = br; opens = op; dues = du } ≡ passOf b concerned opens dues old name time
-  unfolding passOf
-  passing-end {rules} {br} {op} {du} {todo} p e =
-      let all : (k : ℕ) → seen todo k ≡ looks k =
-      λ k. ap (λ (t : Bool). looks k && not t) (ap (λ (m : ℕ). member m k) e ∙ member-empty k) ∙ and-true (looks k) in
-      let er : rules ≡ mapN (stateAt b concerned opens dues old name time) 0 16 old =
-      p .states
-      ∙ mapN-alike (seenState todo) (stateAt b concerned opens dues old name time) 0 16 old (λ k st h. ap (λ (t : Bool). cond t (step k st .state) st) (all k)) in
-      let eb : br ≡ maskN (brokenAt b concerned opens dues old name time) 16 =
-      mask-is 16 br (brokenAt b concerned opens dues old name time) (p .broke<) (λ k h. p .broke k ∙ ap (λ (t : Bool). t && isBroken (stands k)) (all k)) in
-      let eo : op ≡ maskN (openAt b concerned opens dues old name time) 16 =
-      mask-is 16 op (openAt b concerned opens dues old name time) (p .opened<)
-      (λ k h. p .opened k ∙ ap (λ (t : Bool). cond t (isOpen (stands k)) (member opens k && not (looks k))) (all k)
-      ∙ settles (looks k) (isOpen (stands k)) (member opens k)) in
-      let ed : du ≡ maskN (dueAt b concerned opens dues old name time) 16 =
-      mask-is 16 du (dueAt b concerned opens dues old name time) (p .due<) (λ k h. p .due k ∙ ap (λ (t : Bool). t && isDue (stands k)) (all k)) in
-      made er eb eo ed
+pub none-and-all : (a : ℕ) → Union 0 a a
+none-and-all a = record { members = λ k. ap (λ (t : Bool). t || member a k) (sym (member-empty k)) }

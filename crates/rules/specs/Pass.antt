@@ -3,7 +3,7 @@
 use mathlib.Core.Path.{_≡_}
 use mathlib.Core.Bool.{Bool, cond, _&&_, _||_}
 use mathlib.Core.List.{List}
-use Prim.Native.Nat.{ℕ}
+use Prim.Native.Nat.{ℕ, _+_, _*_, _/_, _%_, _^_, _<_}
 use lib.Dec.{eqb}
 use lib.ListN.{length, getD, set}
 use Rattle.names.specs.Names.{member}
@@ -11,17 +11,20 @@ use Rattle.step.specs.declared.RuleState.{RuleState}
 use Rattle.step.specs.declared.Stepped.{Stepped}
 use Rattle.words.specs.Words.{noState, rulesIn}
 use Rattle.rules.specs.declared.Masks.{Masks}
-use Rattle.masks.specs.Masks.{maskN}
+use Rattle.masks.specs.Masks.{maskN, Union, With}
 use Rattle.fragment.specs.Upto.{mapN}
 use Rattle.deadline.specs.Plans.{planOf, dueOf}
 use Rattle.step.specs.Steps.{Tables, actOf}
 
--- a rule at an observation: it has the name, or a deadline of its runs
+-- a rule at an event on one of its names, and a rule that is held to its deadline; at an observation it is the one or the other
+unfoldable pub actedOf : Tables → ℕ → RuleState → ℕ → ℕ → Stepped
+actedOf b r st name time = actOf (b .fragments) (b .names) (b .ranges) r (planOf (getD (b .heads) r 0)) st name time
+
+abbrev pub waitedOf : List ℕ → ℕ → RuleState → ℕ → Stepped
+waitedOf heads r st time = record { state = st; standing = dueOf (planOf (getD heads r 0)) (st .end) time }
+
 unfoldable pub ruleOf : Tables → ℕ → ℕ → RuleState → ℕ → ℕ → Stepped
-ruleOf b concerned r st name time =
-    cond (member concerned r)
-    (actOf (b .fragments) (b .names) (b .ranges) r (planOf (getD (b .heads) r 0)) st name time)
-    (record { state = st; standing = dueOf (planOf (getD (b .heads) r 0)) (st .end) time })
+ruleOf b concerned r st name time = cond (member concerned r) (actedOf b r st name time) (waitedOf (b .heads) r st time)
 
 abbrev pub isBroken : ℕ → Bool
 isBroken k = eqb k 3
@@ -70,13 +73,60 @@ passOf b concerned opens dues old name time = record {
   dues = maskN (dueAt b concerned opens dues old name time) 16;
 }
 
+-- ---- three masks in one word
+
+abbrev pub brokenIn : ℕ → ℕ
+brokenIn all = all % 65536
+
+abbrev pub openIn : ℕ → ℕ
+openIn all = all / 65536 % 65536
+
+abbrev pub dueIn : ℕ → ℕ
+dueIn all = all / 4294967296 % 65536
+
+-- how a rule stands, as the lowest bits of the three
+unfoldable pub marksOf : ℕ → ℕ
+marksOf k = cond (isBroken k) 1 0 + 65536 * cond (isOpen k) 1 0 + 4294967296 * cond (isDue k) 1 0
+
+-- the masks of a word with rule r in those that its standing says
+pub record Marks (all r standing made : ℕ) : Type 0 where
+  pub broke : With (brokenIn all) r (isBroken standing) (brokenIn made)
+  pub opened : With (openIn all) r (isOpen standing) (openIn made)
+  pub due : With (dueIn all) r (isDue standing) (dueIn made)
+
+-- the masks of a word, with those rules of `who` in each that their standing says
+pub record Notes (noted who : ℕ) (stands : ℕ → ℕ) (all : ℕ) : Type 0 where
+  pub broke : (k : ℕ) → member (brokenIn all) k ≡ (member (brokenIn noted) k || member who k && isBroken (stands k))
+  pub opened : (k : ℕ) → member (openIn all) k ≡ (member (openIn noted) k || member who k && isOpen (stands k))
+  pub due : (k : ℕ) → member (dueIn all) k ≡ (member (dueIn noted) k || member who k && isDue (stands k))
+
+-- the rules of `who` held to their deadlines
+abbrev pub Waits : List ℕ → ℕ → ℕ → List RuleState → ℕ → Type 0
+Waits heads who time old all = Notes 0 who (λ k. waitedOf heads k (getD old k noState) time .standing) all
+
+-- the three masks of a word, and the open rules that are left
+pub record Tells (all left : ℕ) (p : Masks) : Type 0 where
+  pub broke : p .broken ≡ brokenIn all
+  pub opened : Union left (openIn all) (p .opens)
+  pub opened< : p .opens < 2 ^ 16
+  pub due : p .dues ≡ dueIn all
+
 -- ---- in a monitor's words, which are 34, as their type says
 
--- rule r at an observation: how it stands, and the words that it leaves
-pub record Steps (b : Tables) (concerned r name time : ℕ) (before : List ℕ) (standing : ℕ) (after : List ℕ) : Type 0 where
-  pub stands : standing ≡ ruleOf b concerned r (getD (rulesIn before) r noState) name time .standing
+-- rule r becomes s: how it stands, and the words that it leaves
+pub record Steps (s : Stepped) (r : ℕ) (before : List ℕ) (standing : ℕ) (after : List ℕ) : Type 0 where
+  pub stands : standing ≡ s .standing
   pub long : length before ≡ 34 → length after ≡ 34
-  pub moves : length before ≡ 34 → rulesIn after ≡ set (rulesIn before) r (ruleOf b concerned r (getD (rulesIn before) r noState) name time .state)
+  pub moves : length before ≡ 34 → rulesIn after ≡ set (rulesIn before) r (s .state)
+
+-- the rules of `who` step
+abbrev pub stepsAt : Tables → ℕ → ℕ → ℕ → ℕ → RuleState → RuleState
+stepsAt b who name time k st = cond (member who k) (actedOf b k st name time .state) st
+
+pub record StepsAll (b : Tables) (noted who name time : ℕ) (before : List ℕ) (all : ℕ) (after : List ℕ) : Type 0 where
+  pub long : length before ≡ 34 → length after ≡ 34
+  pub moves : length before ≡ 34 → rulesIn after ≡ mapN (stepsAt b who name time) 0 16 (rulesIn before)
+  pub notes : length before ≡ 34 → Notes noted who (λ k. actedOf b k (getD (rulesIn before) k noState) name time .standing) all
 
 -- all of them
 pub record Passes (b : Tables) (concerned opens dues name time : ℕ) (before : List ℕ) (p : Masks) (after : List ℕ) : Type 0 where

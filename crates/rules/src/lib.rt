@@ -2,42 +2,109 @@
 // the rules that the observation concerns are read or written, and the state of each goes by value.
 ghost use mathlib.Core.Path.{_≡_};
 ghost use Prim.Native.Nat.{_<_};
-ghost use Rattle.rules.specs.Pass.{isOpen, Steps, Passes};
+ghost use lib.ListN.{getD};
+ghost use Rattle.words.specs.Words.{noState, rulesIn};
+ghost use Rattle.rules.specs.Pass.{marksOf, actedOf, waitedOf, Marks, Steps, Waits, StepsAll, Tells, Passes};
 
-// Rule r at an observation, and how it then stands: it steps if it has the name; else it is held to its deadline, and its state stays.
-fn rule<'a>(
+// ---- three masks in one word
+
+// How a rule stands, as the lowest bits of three masks: of the rules that broke (bit 0), are open (16), and have a deadline that runs (32). Three masks in one word cost one shift and
+// one `or` for a rule, and one register.
+fn marks(standing: u8) -> u64
+    ensures { λ r. ⌜ r ≡ marksOf standing ⌝ }
+{
+    if standing == 1 {
+        return 65536;
+    }
+    if standing == 2 {
+        return 4295032832;
+    }
+    if standing == 3 {
+        return 1;
+    }
+    0
+}
+
+// The three masks with rule r in those that its standing says.
+fn marked(all: u64, r: usize, standing: u8) -> u64
+    requires { ⌜ r < 16 ⌝ }
+    ensures { λ made. ⌜ Marks all r standing made ⌝ }
+{
+    all | marks(standing) << r
+}
+
+// ---- one rule
+
+// Rule r, which has the name, steps; how it then stands.
+fn stepped<'a>(
     heads: &'a [u64; 16],
     fragments: &'a [u16; 256],
     names: &'a [u64; 256],
     ranges: &'a [u64; 2048],
     m: &mut [u64; 34],
-    concerned: u16,
     r: usize,
     name: u8,
     time: u32,
 ) -> u8
     requires { ⌜ r < 16 ⌝ }
-    ensures { λ k. ⌜ Steps (record { heads = now (heads .entry); fragments = now (fragments .entry); names = now (names .entry); ranges = now (ranges .entry) }) concerned r name time (now (m .entry)) k (now (m .exit)) ⌝ }
+    ensures { λ k. ⌜ Steps (actedOf (record { heads = now (heads .entry); fragments = now (fragments .entry); names = now (names .entry); ranges = now (ranges .entry) }) r (getD (rulesIn (now (m .entry))) r noState) name time) r (now (m .entry)) k (now (m .exit)) ⌝ }
 {
     let p = deadline::plan_of(heads[r]);
-    if masks::has(concerned, r) {
-        let was = words::load(m, r);
-        let s = step::act(fragments, names, ranges, r, p, was, name, time);
-        let st = s.state;
-        words::store(m, r, st);
-        return s.standing;
-    }
+    let was = words::load(m, r);
+    let s = step::act(fragments, names, ranges, r, p, was, name, time);
+    let st = s.state;
+    words::store(m, r, st);
+    s.standing
+}
+
+// How rule r, whose deadline runs, stands at a time. Its state stays.
+fn waited(heads: &[u64; 16], m: &[u64; 34], r: usize, time: u32) -> u8
+    requires { ⌜ r < 16 ⌝ }
+    ensures { λ k. ⌜ k ≡ waitedOf (now (heads .entry)) r (getD (rulesIn (now (m .entry))) r noState) time .standing ⌝ }
+{
+    let p = deadline::plan_of(heads[r]);
     deadline::due(p, words::end_of(m, r), time)
 }
 
-// Whether a rule that stands so is open.
-fn is_open(standing: u8) -> bool
-    ensures { λ r. ⌜ r ≡ isOpen standing ⌝ }
+// ---- the rules of a mask, one by one
+
+// Each rule is held to its deadline.
+fn all_waited(heads: &[u64; 16], m: &[u64; 34], who: u16, time: u32) -> u64
+    ensures { λ all. ⌜ Waits (now (heads .entry)) who time (rulesIn (now (m .entry))) all ⌝ }
 {
-    if standing == 1 {
-        return true;
+    let mut all = 0u64;
+    let mut todo = who;
+    while 0 < todo {
+        let r = masks::lowest(todo);
+        todo = masks::less(todo, r);
+        all = marked(all, r, waited(heads, m, r, time));
     }
-    standing == 2
+    all
+}
+
+// Each rule steps; its standing goes to those noted before.
+fn all_stepped<'a>(
+    heads: &'a [u64; 16],
+    fragments: &'a [u16; 256],
+    names: &'a [u64; 256],
+    ranges: &'a [u64; 2048],
+    m: &mut [u64; 34],
+    noted: u64,
+    who: u16,
+    name: u8,
+    time: u32,
+) -> u64
+    ensures { λ all. ⌜ StepsAll (record { heads = now (heads .entry); fragments = now (fragments .entry); names = now (names .entry); ranges = now (ranges .entry) }) noted who name time (now (m .entry)) all (now (m .exit)) ⌝ }
+{
+    let mut all = noted;
+    let mut todo = who;
+    while 0 < todo {
+        let r = masks::lowest(todo);
+        todo = masks::less(todo, r);
+        let k = stepped(heads, fragments, names, ranges, m, r, name, time);
+        all = marked(all, r, k);
+    }
+    all
 }
 
 // The masks of the rules that broke at an observation, are open after it, and have a deadline that runs.
@@ -47,43 +114,19 @@ pub struct Masks {
     pub dues: u16,
 }
 
-// The rules that have the name or a deadline that runs, one by one; each other rule stays as it is, open if it was open.
-fn passed<'a>(
-    heads: &'a [u64; 16],
-    fragments: &'a [u16; 256],
-    names: &'a [u64; 256],
-    ranges: &'a [u64; 2048],
-    m: &mut [u64; 34],
-    concerned: u16,
-    opens: u16,
-    dues: u16,
-    name: u8,
-    time: u32,
-) -> Masks
-    ensures { λ p. ⌜ Passes (record { heads = now (heads .entry); fragments = now (fragments .entry); names = now (names .entry); ranges = now (ranges .entry) }) concerned opens dues name time (now (m .entry)) p (now (m .exit)) ⌝ }
+// The three masks of a word; `left` are the open rules that were not looked at.
+fn told(all: u64, left: u16) -> Masks
+    ensures { λ p. ⌜ Tells all left p ⌝ }
 {
-    let touched = masks::union(concerned, dues);
-    let mut br = 0u16;
-    let mut op = masks::without(opens, touched);
-    let mut du = 0u16;
-    let mut todo = touched;
-    while 0 < todo {
-        let r = masks::lowest(todo);
-        todo = masks::less(todo, r);
-        let k = rule(heads, fragments, names, ranges, m, concerned, r, name, time);
-        br = masks::with(br, r, k == 3);
-        op = masks::with(op, r, is_open(k));
-        du = masks::with(du, r, k == 2);
-    }
     Masks {
-        broken: br,
-        opens: op,
-        dues: du,
+        broken: (all % 65536) as u16,
+        opens: masks::union(left, (all / 65536 % 65536) as u16),
+        dues: (all / 4294967296 % 65536) as u16,
     }
 }
 
-// The same, with the mask of an observation that concerns no rule as a constant, so that the compiler keeps the step of a rule out of that loop: a clock reading, or an event on a name
-// that no rule has.
+// The rules that have the name step, and those whose deadline runs are held to it; each other rule stays as it is, open if it was open. An observation that concerns no rule, a clock
+// reading or an event on a name that no rule has, ends before anything that steps a rule.
 pub fn looked<'a>(
     heads: &'a [u64; 16],
     fragments: &'a [u16; 256],
@@ -99,29 +142,20 @@ pub fn looked<'a>(
     ensures { λ p. ⌜ Passes (record { heads = now (heads .entry); fragments = now (fragments .entry); names = now (names .entry); ranges = now (ranges .entry) }) concerned opens dues name time (now (m .entry)) p (now (m .exit)) ⌝ }
 {
     if concerned == 0 {
-        return passed(
-            heads,
-            fragments,
-            names,
-            ranges,
-            m,
-            0,
-            opens,
-            dues,
-            name,
-            time,
-        );
+        let held = all_waited(heads, m, dues, time);
+        return told(held, masks::without(opens, dues));
     }
-    passed(
+    let held = all_waited(heads, m, masks::without(dues, concerned), time);
+    let all = all_stepped(
         heads,
         fragments,
         names,
         ranges,
         m,
+        held,
         concerned,
-        opens,
-        dues,
         name,
         time,
-    )
+    );
+    told(all, masks::without(opens, masks::union(concerned, dues)))
 }

@@ -87,10 +87,10 @@ stores m r a b st l h e = record {
         (getD-set-other (set m (2 * r) a) (2 * r + 1) (2 * j) b 0 (λ p. omega arith) ∙ getD-set-other m (2 * r) (2 * j) a 0 (λ p. n (omega arith)))
         (getD-set-other (set m (2 * r) a) (2 * r + 1) (2 * j + 1) b 0 (λ p. n (omega arith)) ∙ getD-set-other m (2 * r) (2 * j + 1) a 0 (λ p. omega arith)))
 
-middle : (below d above w : ℕ) → below < 65536 → d < 65536 → w ≡ below + 65536 * (d + 65536 * above) → w / 65536 % 65536 ≡ d
+pub middle : (below d above w : ℕ) → below < 65536 → d < 65536 → w ≡ below + 65536 * (d + 65536 * above) → w / 65536 % 65536 ≡ d
 middle below d above w l h e = omega arith
 
-upper : (below d w : ℕ) → below < 4294967296 → d < 65536 → w ≡ below + 4294967296 * d → w / 4294967296 % 65536 ≡ d
+pub upper : (below d w : ℕ) → below < 4294967296 → d < 65536 → w ≡ below + 4294967296 * d → w / 4294967296 % 65536 ≡ d
 upper below d w l h e = omega arith
 
 -- the monitor's own two words

@@ -1,0 +1,59 @@
+-- `rules::all_waited` meets its contract. The loop's invariant is `Noting`: the masks speak of the rules seen. Each turn takes the lowest rule out of `todo`, which so becomes a smaller
+-- number: the measure. When it is 0, all have been seen. Assumes nothing.
+use mathlib.Core.Path.{_≡_}
+use mathlib.Core.List.{List}
+use Prim.Native.Nat.{ℕ}
+use native.Mathlib.Omega.{arith}
+use denote.Ref.{now}
+use lib.ListN.{getD}
+use Rattle.words.specs.Words.{noState, rulesIn}
+use Rattle.rules.specs.Pass.{waitedOf}
+use Rattle.rules.proofs.Passing.{Noting, noting-start, noting-more, noting-end}
+use borrow.Author.Needs.{needs}
+use Rattle.rules.proofs.all_waited.Statement.{statement}
+use Rattle.rules.proofs.all_waited.Tie as tie
+
+abbrev stands : (heads words : List ℕ) (time k : ℕ) → ℕ
+stands heads words time k = waitedOf heads k (getD (rulesIn words) k noState) time .standing
+
+abbrev Inv-loop : tie.InvT-loop
+Inv-loop heads m who time all₀ todo₀ all todo = Noting 0 who (stands heads m time) todo all
+
+abbrev μ-loop : tie.MeasureT-loop
+μ-loop heads m who time all₀ todo₀ all todo = todo
+
+loop-holds : tie.Need-loop-holds Inv-loop μ-loop
+loop-holds c = let a = c .args in noting-start 0 (a .who) (stands (now (a .heads)) (now (a .m)) (a .time))
+
+lowest-requires : tie.Need-lowest-requires Inv-loop μ-loop
+lowest-requires c κs = search needs
+
+less-requires : tie.Need-less-requires Inv-loop μ-loop
+less-requires c κs = search needs
+
+waited-requires : tie.Need-waited-requires Inv-loop μ-loop
+waited-requires c κs = c .before .lowest .ensures .rule
+
+marked-requires : tie.Need-marked-requires Inv-loop μ-loop
+marked-requires c κs = c .before .before .lowest .ensures .rule
+
+loop-less : tie.Need-loop-less Inv-loop μ-loop
+loop-less c =
+    let less = c .before .before in
+    less .less .ensures .fewer (less .before .lowest .ensures .inside (less .before .before .loop-test .taken))
+
+loop-again : tie.Need-loop-again Inv-loop μ-loop
+loop-again c =
+    let less = c .before .before in
+    let low = less .before .lowest .ensures in
+    let turn = less .before .before in
+    let a = turn .before .before .args in
+    noting-more 0 (a .who) (stands (now (a .heads)) (now (a .m)) (a .time)) (turn .before .loop .inv) (low .inside (turn .loop-test .taken)) (low .rule) (less .less .ensures)
+    (c .before .waited .ensures) (c .marked .ensures)
+
+returns : tie.Need-returns Inv-loop μ-loop
+returns c =
+    let a = c .before .before .args in noting-end 0 (a .who) (stands (now (a .heads)) (now (a .m)) (a .time)) (c .before .loop .inv) (omega (arith, c .loop-test .left))
+
+pub all-waited-spec : {M : Type 1} → statement M
+all-waited-spec = tie.close (tie.spec Inv-loop μ-loop loop-holds lowest-requires less-requires waited-requires marked-requires loop-less loop-again returns)
