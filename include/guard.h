@@ -82,8 +82,8 @@ typedef struct guard_answer {
 uint64_t guard_lent_open(const uint8_t *sheet, size_t sheet_length, uint64_t *heads, uint16_t *fragments, uint64_t *names, uint64_t *ranges, uint16_t *holders,
                          uint64_t *monitor);
 void guard_lent_start(const uint16_t *fragments, uint64_t *monitor);
-uint64_t guard_lent_observe(const uint64_t *heads, const uint16_t *fragments, const uint64_t *names, const uint64_t *ranges, const uint16_t *holders, uint64_t *monitor,
-                            uint32_t name, uint32_t time);
+uint64_t guard_lent_observe(uint64_t *monitor, uint32_t name, uint32_t time, const uint16_t *holders, const uint64_t *heads, const uint16_t *fragments, const uint64_t *names,
+                            const uint64_t *ranges);
 uint64_t guard_lent_verdict(const uint64_t *monitor);
 uint32_t guard_lent_taken(const uint64_t *monitor);
 
@@ -115,13 +115,13 @@ static inline guard_answer guard_event(const guard_book *book, guard_monitor *mo
 {
     /* 255 is no name here, and 256 is refused as it */
     return guard_answer_of(
-        guard_lent_observe(book->heads, book->fragments, book->names, book->ranges, book->holders, monitor->words, name == GUARD_CLOCK ? GUARD_CLOCK + 1 : name, time));
+        guard_lent_observe(monitor->words, name == GUARD_CLOCK ? GUARD_CLOCK + 1 : name, time, book->holders, book->heads, book->fragments, book->names, book->ranges));
 }
 
 /* A time alone: what a host's timer calls, so that a deadline is noticed while no call is made. */
 static inline guard_answer guard_clock(const guard_book *book, guard_monitor *monitor, uint32_t time)
 {
-    return guard_answer_of(guard_lent_observe(book->heads, book->fragments, book->names, book->ranges, book->holders, monitor->words, GUARD_CLOCK, time));
+    return guard_answer_of(guard_lent_observe(monitor->words, GUARD_CLOCK, time, book->holders, book->heads, book->fragments, book->names, book->ranges));
 }
 
 /* The verdict that the monitor holds: whole, open or broken. */

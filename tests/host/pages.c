@@ -148,7 +148,7 @@ static struct lent lent_at(int at_end)
 static guard_answer observe_lent(const struct lent *l, struct observation o)
 {
     uint32_t name = o.clock ? GUARD_CLOCK : o.name == GUARD_CLOCK ? GUARD_CLOCK + 1 : o.name;
-    return guard_answer_of(guard_lent_observe(l->heads, l->fragments, l->names, l->ranges, l->holders, l->monitor, name, o.time));
+    return guard_answer_of(guard_lent_observe(l->monitor, name, o.time, l->holders, l->heads, l->fragments, l->names, l->ranges));
 }
 
 static long wrong_lent(const struct reference_case *c, const struct lent *l)

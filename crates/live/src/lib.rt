@@ -110,16 +110,17 @@ fn observation(name: u32, time: u32) -> Observation
 }
 
 // One observation: an event or a clock reading. One call serves both, so that the compiled library has the monitor's code once, without a call to it.
+// The parameters stand in the order in which they are needed: C's convention hands over the first six in registers, and every observation needs these.
 #[no_mangle]
 pub extern "C" fn guard_lent_observe<'a>(
+    monitor: &mut [u64; 34],
+    name: u32,
+    time: u32,
+    holders: &'a [u16; 64],
     heads: &'a [u64; 16],
     fragments: &'a [u16; 256],
     names: &'a [u64; 256],
     ranges: &'a [u64; 2048],
-    holders: &'a [u16; 64],
-    monitor: &mut [u64; 34],
-    name: u32,
-    time: u32,
 ) -> u64
     ensures { λ r. ⌜ NotesLent (now (heads .entry)) (now (fragments .entry)) (now (names .entry)) (now (ranges .entry)) (now (holders .entry)) (now (monitor .entry)) (observation name time) r (now (monitor .exit)) ⌝ }
 {

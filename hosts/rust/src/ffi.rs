@@ -38,14 +38,14 @@ extern "C" {
     ) -> u64;
     fn guard_lent_start(fragments: *const u16, monitor: *mut u64);
     fn guard_lent_observe(
+        monitor: *mut u64,
+        name: u32,
+        time: u32,
+        holders: *const u16,
         heads: *const u64,
         fragments: *const u16,
         names: *const u64,
         ranges: *const u64,
-        holders: *const u16,
-        monitor: *mut u64,
-        name: u32,
-        time: u32,
     ) -> u64;
     fn guard_lent_verdict(monitor: *const u64) -> u64;
     fn guard_lent_taken(monitor: *const u64) -> u32;
@@ -97,14 +97,14 @@ fn observe(tables: &Tables, monitor: &mut Words, name: u32, time: u32) -> u64 {
     // SAFETY: the arrays have the lengths that the call wants, by their types, and it only reads them; the monitor, borrowed mutably, is apart from them.
     unsafe {
         guard_lent_observe(
+            monitor.as_mut_ptr(),
+            name,
+            time,
+            tables.holders.as_ptr(),
             tables.heads.as_ptr(),
             tables.fragments.as_ptr(),
             tables.names.as_ptr(),
             tables.ranges.as_ptr(),
-            tables.holders.as_ptr(),
-            monitor.as_mut_ptr(),
-            name,
-            time,
         )
     }
 }
