@@ -16,11 +16,11 @@ use Rattle.names.specs.Names.{member}
 use Rattle.layout.specs.Layout.{Sheet, WellFormedRule, WellFormedSheet}
 use Rattle.layout.specs.Pages.{fragmentWord, rangeWord, headTable, fragmentTable, rangeTable, noRange, noRule, ruleAt, rangeAt}
 use Rattle.layout.proofs.PageLaws.{head-at, fragment-at, range-at, round-formed, round-few, each-at}
-use Rattle.tables.specs.Words.{roundIn, cap, nameIn, countIn}
+use Rattle.tables.specs.Words.{roundIn, cap, bitIn, countIn}
 use Rattle.book.specs.Tables.{keptHead, headsKept, fragmentSet, nameTable, ruleSet, ruleTable, maskOf, holderTable, namesFrom, unionFrom}
 use Rattle.book.specs.Books.{bookOf}
 use Rattle.book.specs.Looks.{LooksHead, LooksFragment, LooksRange, Looks}
-use Rattle.tables.proofs.WordLaws.{join-in, count-in, name-in, low-in, high-in}
+use Rattle.tables.proofs.WordLaws.{join-in, count-in, name-in, bit-in, low-in, high-in}
 use Rattle.book.proofs.HeadLaws.{head-round, looks-head}
 use Rattle.book.proofs.SetLaws.{stored-at, round-names, member-names, member-union, member-mask}
 
@@ -66,10 +66,13 @@ module _ (S : Sheet) (formed : WellFormedSheet S) where
           v = high-in (rangeAt (ruleAt (S .rules) r) f s) range-formed;
         })
 
+        pub range-bit : bitIn (getD (rangeTable (S .rules)) (8 * (16 * r + f) + s) 0) ≡ rangeAt (ruleAt (S .rules) r) f s .name
+        range-bit = ap bitIn range-word ∙ bit-in (rangeAt (ruleAt (S .rules) r) f s) range-formed
+
       -- the names of a fragment's ranges, by their numbers
       names-by-number : (i : ℕ) → i < length (fragmentAt (ruleAt (S .rules) r) f .ranges)
-          → nameIn (getD (rangeTable (S .rules)) (8 * (16 * r + f) + i) 0) ≡ getD (fragmentNames (fragmentAt (ruleAt (S .rules) r) f)) i 0
-      names-by-number i l = range i l .name ∙ sym (List·getD-map (λ (x : Range). x .name) (fragmentAt (ruleAt (S .rules) r) f .ranges) i noRange)
+          → bitIn (getD (rangeTable (S .rules)) (8 * (16 * r + f) + i) 0) ≡ getD (fragmentNames (fragmentAt (ruleAt (S .rules) r) f)) i 0
+      names-by-number i l = range-bit i l ∙ sym (List·getD-map (λ (x : Range). x .name) (fragmentAt (ruleAt (S .rules) r) f .ranges) i noRange)
 
       pub fragment-names : (n : ℕ) → member (getD (nameTable (fragmentTable (S .rules)) (rangeTable (S .rules))) (16 * r + f) 0) n
           ≡ isIn n (fragmentNames (fragmentAt (ruleAt (S .rules) r) f))

@@ -15,7 +15,7 @@ use Rattle.pattern.specs.Model.{lastFragments, roundOf, noFragment}
 use Rattle.names.specs.Names.{member, insert}
 use Rattle.names.proofs.Digits.{member-or}
 use Rattle.names.proofs.Sets.{member-empty, member-insert}
-use Rattle.tables.specs.Words.{nameIn}
+use Rattle.tables.specs.Words.{bitIn}
 use Rattle.book.specs.Tables.{stored, namesFrom, unionFrom, maskOf}
 
 -- ---- a table stored entry by entry
@@ -57,13 +57,13 @@ round-names r = ordering-append (r .p) (lastFragments (r .kind)) ∙ ap (orderin
 -- ---- sets
 
 -- the set of n ranges has the names of the first n
-pub member-names : (ranges : List ℕ) (base : ℕ) (ns : List ℕ) (m n : ℕ) → n ≤ length ns → ((i : ℕ) → i < n → nameIn (getD ranges (base + i) 0) ≡ getD ns i 0)
+pub member-names : (ranges : List ℕ) (base : ℕ) (ns : List ℕ) (m n : ℕ) → n ≤ length ns → ((i : ℕ) → i < n → bitIn (getD ranges (base + i) 0) ≡ getD ns i 0)
     → member (namesFrom ranges base n) m ≡ isIn m (take n ns)
 member-names ranges base ns m zero h e = member-empty m
 member-names ranges base ns m (suc n) h e =
     let ih : member (namesFrom ranges base n) m ≡ isIn m (take n ns) = member-names ranges base ns m n (omega (arith, h)) (λ i l. e i (omega (arith, l))) in
     let x : ℕ = getD ns n 0 in
-    member-insert (namesFrom ranges base n) (nameIn (getD ranges (base + n) 0)) m
+    member-insert (namesFrom ranges base n) (bitIn (getD ranges (base + n) 0)) m
     ∙ ap₂ (λ (a : Bool) (y : ℕ). a || eqb m y) ih (e n (omega arith))
     ∙ ap (λ (b : Bool). isIn m (take n ns) || b) (sym (or-false (eqb m x)))
     ∙ sym (in-append m (take n ns) (x ∷ []))

@@ -12,13 +12,13 @@ use lib.ListN.{getD, set}
 use Rattle.names.specs.Names.{member, insert, withName}
 use Rattle.names.proofs.Sets.{insert-below}
 use Rattle.layout.proofs.Values.{with-name}
-use Rattle.tables.specs.Words.{nameIn}
+use Rattle.tables.specs.Words.{bitIn}
 use Rattle.book.specs.Tables.{stored, namesFrom, unionFrom, maskOf}
 
 pub stored-more : (f : ℕ → ℕ) (t : List ℕ) (i : ℕ) {table : List ℕ} {x : ℕ} → table ≡ stored f i t → x ≡ f i → set table i x ≡ stored f (i + 1) t
 stored-more f t i e ex = rw (add-one, e, ex)
 
-pub names-more : (ranges : List ℕ) (base i : ℕ) {names n x : ℕ} → names ≡ namesFrom ranges base i → n ≡ nameIn (getD ranges (base + i) 0) → x ≡ withName names n
+pub names-more : (ranges : List ℕ) (base i : ℕ) {names n x : ℕ} → names ≡ namesFrom ranges base i → n ≡ bitIn (getD ranges (base + i) 0) → x ≡ withName names n
     → x ≡ namesFrom ranges base (i + 1)
 names-more ranges base i {names} {n} e en ex =
     let small : n ≤ 63 = omega (arith, en, mod-lt (getD ranges (base + i) 0) (zero-lt-suc 63)) in

@@ -7,7 +7,7 @@ use Prim.Native.Nat.{ℕ, zero, suc, _+_, _*_, _/_, _%_}
 use lib.Bits.{bitOr}
 use lib.ListN.{getD, set, replicate}
 use Rattle.names.specs.Names.{member, insert}
-use Rattle.tables.specs.Words.{cap, roundIn, countIn, nameIn}
+use Rattle.tables.specs.Words.{cap, roundIn, countIn, bitIn}
 
 -- f of each number below n, stored at it
 abbrev pub stored : (ℕ → ℕ) → ℕ → List ℕ → List ℕ
@@ -28,7 +28,7 @@ headsKept heads = stored (λ r. keptHead (getD heads r 0)) 16 (replicate 16 0)
 -- the names of n ranges from an index on
 abbrev pub namesFrom : List ℕ → ℕ → ℕ → ℕ
 namesFrom ranges base zero = 0
-namesFrom ranges base (suc n) = insert (namesFrom ranges base n) (nameIn (getD ranges (base + n) 0))
+namesFrom ranges base (suc n) = insert (namesFrom ranges base n) (bitIn (getD ranges (base + n) 0))
 
 module _ (fragments ranges : List ℕ) where
   -- of fragment k

@@ -40,7 +40,7 @@ fn fragment_set<'a>(fragments: &'a [u16; 256], ranges: &'a [u64; 2048], k: usize
     let mut set = 0u64;
     let mut i = 0usize;
     while i < count {
-        set = names::with(set, tables::name(ranges[base + i]));
+        set = names::with(set, tables::bit(ranges[base + i]));
         i = i + 1;
     }
     set

@@ -7,7 +7,7 @@ use lib.ListN.{length}
 use Rattle.pattern.specs.Meaning.{Range, Join, all, any, Fragment, WellFormedRange, WellFormedFragment}
 use Rattle.layout.specs.Layout.{joinNumber}
 use Rattle.layout.specs.Pages.{fragmentWord, rangeWord}
-use Rattle.tables.specs.Words.{joinIn, countIn, nameIn, lowIn, highIn}
+use Rattle.tables.specs.Words.{joinIn, countIn, nameIn, bitIn, lowIn, highIn}
 use Rattle.tables.proofs.Bounds.{cap-of}
 
 -- ---- numbers
@@ -36,6 +36,9 @@ count-in f w = rw (high-part (joinNumber (f .join)) (length (f .ranges)) (join-s
 module _ (r : Range) (w : WellFormedRange r) where
   pub name-in : nameIn (rangeWord r) ≡ r .name
   name-in = let h : r .name ≤ 63 = w .named in omega arith
+
+  pub bit-in : bitIn (rangeWord r) ≡ r .name
+  bit-in = let h : r .name ≤ 63 = w .named in omega arith
 
   pub low-in : lowIn (rangeWord r) ≡ r .u
   low-in = let h : r .name ≤ 63 = w .named in let l : r .u ≤ 65535 = omega (arith, w .order, w .few) in omega arith

@@ -49,9 +49,12 @@ countIn word = cap mostRanges (word / 256)
 
 -- ---- a range's
 
--- a name, whatever the number
+-- a name, whatever the number; and its place in a set of names
 abbrev pub nameIn : ℕ → ℕ
-nameIn word = word % 64
+nameIn word = word % 256
+
+abbrev pub bitIn : ℕ → ℕ
+bitIn word = word % 64
 
 abbrev pub lowIn : ℕ → ℕ
 lowIn word = word / 256 % 65536

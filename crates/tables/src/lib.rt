@@ -2,7 +2,7 @@
 ghost use mathlib.Core.Path.{_≡_};
 ghost use mathlib.Core.Bool.{cond};
 ghost use lib.Dec.{eqb};
-ghost use Rattle.tables.specs.Words.{kindIn, countPIn, countQIn, triggerIn, timeIn, roundIn, lastIn, joinIn, countIn, nameIn, lowIn, highIn};
+ghost use Rattle.tables.specs.Words.{kindIn, countPIn, countQIn, triggerIn, timeIn, roundIn, lastIn, joinIn, countIn, nameIn, bitIn, lowIn, highIn};
 
 // ---- a rule's head
 
@@ -87,6 +87,13 @@ pub fn ranges_in(word: u16) -> u8
 
 pub fn name(word: u64) -> u8
     ensures { λ r. ⌜ r ≡ nameIn word ⌝ }
+{
+    (word % 256) as u8
+}
+
+// The name's place in a set of names: 0 to 63, whatever the number.
+pub fn bit(word: u64) -> u8
+    ensures { λ r. ⌜ r ≡ bitIn word ⌝ }
 {
     (word % 64) as u8
 }

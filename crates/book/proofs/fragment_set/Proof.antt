@@ -41,17 +41,17 @@ mul-base c = search needs
 loop-holds : tie.Need-loop-holds Inv-loop μ-loop
 loop-holds c = (omega arith, refl)
 
-add-name : tie.Need-add-name Inv-loop μ-loop
-add-name c = omega (arith, c .before .before .ranges-in .ensures, count-small (getD (c .before .before .before .before .args .fragments .now) (c .before .before .before .before .args .k) 0))
+add-bit : tie.Need-add-bit Inv-loop μ-loop
+add-bit c = omega (arith, c .before .before .ranges-in .ensures, count-small (getD (c .before .before .before .before .args .fragments .now) (c .before .before .before .before .args .k) 0))
 
-mul-name : tie.Need-mul-name Inv-loop μ-loop
-mul-name c = search needs
+mul-bit : tie.Need-mul-bit Inv-loop μ-loop
+mul-bit c = search needs
 
-element-copy-out-name : tie.Need-element-copy-out-name Inv-loop μ-loop
-element-copy-out-name c = omega (arith, c .before .before .ranges-in .ensures, count-small (getD (c .before .before .before .before .args .fragments .now) (c .before .before .before .before .args .k) 0))
+element-copy-out-bit : tie.Need-element-copy-out-bit Inv-loop μ-loop
+element-copy-out-bit c = omega (arith, c .before .before .ranges-in .ensures, count-small (getD (c .before .before .before .before .args .fragments .now) (c .before .before .before .before .args .k) 0))
 
-name-requires : tie.Need-name-requires Inv-loop μ-loop
-name-requires c κs = search needs
+bit-requires : tie.Need-bit-requires Inv-loop μ-loop
+bit-requires c κs = search needs
 
 with-requires : tie.Need-with-requires Inv-loop μ-loop
 with-requires c κs = search needs
@@ -63,10 +63,10 @@ loop-less : tie.Need-loop-less Inv-loop μ-loop
 loop-less c = omega arith
 
 loop-again : tie.Need-loop-again Inv-loop μ-loop
-loop-again c = (omega arith, names-more (c .before .before .before .before .before .before .before .args .ranges .now) (8 * c .before .before .before .before .before .before .before .args .k) (c .before .before .before .before .loop .i) (c .before .before .before .before .loop .inv .1) (c .before .name .ensures) (c .with .ensures))
+loop-again c = (omega arith, names-more (c .before .before .before .before .before .before .before .args .ranges .now) (8 * c .before .before .before .before .before .before .before .args .k) (c .before .before .before .before .loop .i) (c .before .before .before .before .loop .inv .1) (c .before .bit .ensures) (c .with .ensures))
 
 returns : tie.Need-returns Inv-loop μ-loop
 returns c = all-named _ _ _ (c .before .before .ranges-in .ensures) (c .before .loop .inv .0) (c .loop-test .left) (c .before .loop .inv .1)
 
 pub fragment-set-spec : {M : Type 1} → statement M
-fragment-set-spec = tie.close (tie.spec Inv-loop μ-loop mul-ranges-in element-copy-out-ranges-in ranges-in-requires cast-count mul-base loop-holds add-name mul-name element-copy-out-name name-requires with-requires add-i loop-less loop-again returns)
+fragment-set-spec = tie.close (tie.spec Inv-loop μ-loop mul-ranges-in element-copy-out-ranges-in ranges-in-requires cast-count mul-base loop-holds add-bit mul-bit element-copy-out-bit bit-requires with-requires add-i loop-less loop-again returns)
