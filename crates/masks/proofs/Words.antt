@@ -1,18 +1,16 @@
 -- The members of what the code computes from a word: of its complement, of a word without those of another, and its lowest one, which is its number of zeros at the low end.
 -- Digit 0 is the remainder by 2 and digit k + 1 is digit k of the half, so each goes by recursion on the word's width. They hold of words of every width. Assumes nothing.
 use mathlib.Core.Path.{_≡_, refl, sym, ap, _∙_}
-use mathlib.Core.Bool.{Bool, true, false, not, _&&_, and-true, and-false}
+use mathlib.Core.Bool.{Bool, true, false, not, _&&_, and-true, and-false, and-self}
 use Prim.Native.Nat.{ℕ, zero, suc, _+_, _-_, _*_, _/_, _%_, _^_, _<_, _≤_}
-use native.Mathlib.Nat.{one-mul}
 use native.Mathlib.Omega.{arith}
 use lib.Arith.{lt-of-le-ne}
-use lib.Pow.{pow-lt, shl-exact}
 use lib.Bits.{bitAnd, and-le-l}
 use lib.Count.{trailingZeros, under}
-use lib.Dec.{eqb, ltb}
+use lib.Dec.{eqb, ltb, eqb·suc-zero, eqb·suc-suc}
 use borrow.Author.Tests.{eq-eqb, ne-eqb, eqb-true, ltb-true, ltb-false}
 use Rattle.names.specs.Names.{member}
-use Rattle.names.proofs.Digits.{lowest, next, member-and, member-power}
+use Rattle.names.proofs.Digits.{lowest, next, member-and}
 use Rattle.names.proofs.Sets.{member-beyond}
 
 -- ---- the complement
@@ -44,22 +42,6 @@ member-without n a b k h g = member-and a ((2 ^ n - 1) - b) k ∙ of (ltb k n) r
 pub and-fewer : (a b k : ℕ) → member a k ≡ true → member (bitAnd a b) k ≡ false → bitAnd a b < a
 and-fewer a b k p q =
     lt-of-le-ne (and-le-l a b) (λ (e : bitAnd a b ≡ a). let z : _≡_ {A = ℕ} 0 1 = cc (rw e at q) in omega arith)
-
--- without one number; past the width it is none of the members
-pub member-without-one : (n a r k : ℕ) → a < 2 ^ n → r < n → member (bitAnd a ((2 ^ n - 1) - 2 ^ r)) k ≡ (member a k && not (eqb k r))
-member-without-one n a r k h g = member-without n a (2 ^ r) k h (pow-lt g) ∙ ap (λ (x : Bool). member a k && not x) (member-power r k)
-
-pub member-without-none : (n a r k : ℕ) → a < 2 ^ n → n ≤ r → member a k ≡ (member a k && not (eqb k r))
-member-without-none n a r k h g = of (eqb k r) refl
-  where
-    of : (b : Bool) → eqb k r ≡ b → member a k ≡ (member a k && not b)
-    of true e = let same : k ≡ r = eqb-true k r e in member-beyond n a k h (omega arith) ∙ sym (and-false (member a k))
-    of false e = sym (and-true (member a k))
-
-pub without-one-fewer : (n a r : ℕ) → a < 2 ^ n → r < n → member a r ≡ true → bitAnd a ((2 ^ n - 1) - 2 ^ r) < a
-without-one-fewer n a r h g p =
-    and-fewer a ((2 ^ n - 1) - 2 ^ r) r p
-    (member-without-one n a r r h g ∙ ap (λ (x : Bool). member a r && not x) (eq-eqb r r refl) ∙ and-false (member a r))
 
 -- ---- the lowest member
 
@@ -94,7 +76,35 @@ member-within n a k h p = of (ltb k n) refl
 pub lowest-below : (n a : ℕ) → 0 < a → a < 2 ^ n → trailingZeros n a < n
 lowest-below n a h g = member-within n a (trailingZeros n a) g (lowest-inside n a h g)
 
--- ---- 1 shifted to the place of a rule: none of it is lost
+-- ---- all but the lowest member: the number below a word has the same digits above it, and 0 there
 
-pub bit : (r : ℕ) → r < 16 → 1 * 2 ^ r % 65536 ≡ 2 ^ r
-bit r h = shl-exact {a = 1} 1 r 16 (omega arith) (omega arith) ∙ one-mul (2 ^ r)
+pub rest-members : (n a k : ℕ) → 0 < a → a < 2 ^ n → (member a k && member (a - 1) k) ≡ (member a k && not (eqb k (trailingZeros n a)))
+unfolding trailingZeros
+rest-members zero a k h g = absurd (omega arith)
+rest-members (suc n) a k h g = of (a % 2) refl k (λ (j : ℕ) (q : 0 < a / 2). rest-members n (a / 2) j q (omega arith))
+  where
+    of : (d : ℕ) → a % 2 ≡ d → (k : ℕ) → ((j : ℕ) → 0 < a / 2 → (member (a / 2) j && member (a / 2 - 1) j) ≡ (member (a / 2) j && not (eqb j (trailingZeros n (a / 2)))))
+        → (member a k && member (a - 1) k) ≡ (member a k && not (eqb k (under d (trailingZeros n (a / 2)))))
+    of zero e zero ih = rw (lowest a ∙ ne-eqb (a % 2) 1 (λ f. omega arith))
+    of zero e (suc k) ih =
+        let half : (a - 1) / 2 ≡ a / 2 - 1 = omega arith in
+        rw (next a k, next (a - 1) k, half, eqb·suc-suc) (ih k (omega arith))
+    of (suc d) e zero ih = rw (lowest (a - 1) ∙ ne-eqb ((a - 1) % 2) 1 (λ f. omega arith))
+    of (suc d) e (suc k) ih =
+        let half : (a - 1) / 2 ≡ a / 2 = omega arith in
+        rw (next a k, next (a - 1) k, half, eqb·suc-zero) (and-self (member (a / 2) k) ∙ sym (and-true (member (a / 2) k)))
+
+-- the lowest member's number is one alone
+pub lowest-one : (n a r : ℕ) → 0 < a → a < 2 ^ n → member a r ≡ true → ((k : ℕ) → k < r → member a k ≡ false) → r ≡ trailingZeros n a
+lowest-one n a r h g inside least = of (ltb r (trailingZeros n a)) refl (ltb (trailingZeros n a) r) refl
+  where
+    t : ℕ
+    t = trailingZeros n a
+
+    no : {x : Bool} → x ≡ true → x ≡ false → ⊥
+    no p q = let z : _≡_ {A = ℕ} 0 1 = cc (sym p ∙ q) in absurd (omega arith)
+
+    of : (x : Bool) → ltb r t ≡ x → (y : Bool) → ltb t r ≡ y → r ≡ trailingZeros n a
+    of true p y q = absurd (no inside (lowest-least n a r (ltb-true r t p)))
+    of false p true q = absurd (no (lowest-inside n a h g) (least t (ltb-true t r q)))
+    of false p false q = omega (arith, ltb-false r t p, ltb-false t r q)

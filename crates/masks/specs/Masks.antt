@@ -38,3 +38,7 @@ pub record Lowest (mask r : ℕ) : Type 0 where
 pub record Less (mask r left : ℕ) : Type 0 where
   pub members : (k : ℕ) → member left k ≡ (member mask k && not (eqb k r))
   pub fewer : member mask r ≡ true → left < mask
+
+-- the mask without its lowest rule, if it has any
+abbrev pub Rest : ℕ → ℕ → Type 0
+Rest mask left = (r : ℕ) → 0 < mask → Lowest mask r → Less mask r left

@@ -1,6 +1,6 @@
 // Sets of rules (document 01): "a 16-bit mask of the rules". Rule r is in a mask if bit r is set. Every mask and every number is taken: one of 16 or more is no rule,
 // and is in no mask.
-ghost use Rattle.masks.specs.Masks.{Union, Without, Lowest, Less};
+ghost use Rattle.masks.specs.Masks.{Union, Without, Lowest, Rest};
 
 // The rules of either mask.
 pub fn union(a: u16, b: u16) -> u16
@@ -23,12 +23,12 @@ pub fn lowest(mask: u16) -> usize
     (u16::trailing_zeros(mask) % 16) as usize
 }
 
-// The mask without rule r: a smaller number if r was in it.
-pub fn less(mask: u16, r: usize) -> u16
-    ensures { λ left. ⌜ Less mask r left ⌝ }
+// The mask without its lowest rule: a smaller number, if it has any.
+pub fn rest(mask: u16) -> u16
+    ensures { λ left. ⌜ Rest mask left ⌝ }
 {
-    if 15 < r {
-        return mask;
+    if mask == 0 {
+        return 0;
     }
-    mask & !(1 << r)
+    mask & (mask - 1)
 }

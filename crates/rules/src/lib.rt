@@ -76,7 +76,7 @@ fn all_waited(heads: &[u64; 16], m: &[u64; 34], who: u16, time: u32) -> u64
     let mut todo = who;
     while 0 < todo {
         let r = masks::lowest(todo);
-        todo = masks::less(todo, r);
+        todo = masks::rest(todo);
         all = marked(all, r, waited(heads, m, r, time));
     }
     all
@@ -100,7 +100,7 @@ fn all_stepped<'a>(
     let mut todo = who;
     while 0 < todo {
         let r = masks::lowest(todo);
-        todo = masks::less(todo, r);
+        todo = masks::rest(todo);
         let k = stepped(heads, fragments, names, ranges, m, r, name, time);
         all = marked(all, r, k);
     }

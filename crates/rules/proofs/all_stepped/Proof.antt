@@ -36,8 +36,8 @@ loop-holds c =
 lowest-requires : tie.Need-lowest-requires Inv-loop μ-loop
 lowest-requires c κs = search needs
 
-less-requires : tie.Need-less-requires Inv-loop μ-loop
-less-requires c κs = search needs
+rest-requires : tie.Need-rest-requires Inv-loop μ-loop
+rest-requires c κs = search needs
 
 stepped-requires : tie.Need-stepped-requires Inv-loop μ-loop
 stepped-requires c κs = c .before .before .lowest .ensures .rule
@@ -47,21 +47,23 @@ marked-requires c κs = c .before .before .before .lowest .ensures .rule
 
 loop-less : tie.Need-loop-less Inv-loop μ-loop
 loop-less c =
-    let less = c .before .before .before in
-    less .less .ensures .fewer (less .before .lowest .ensures .inside (less .before .before .loop-test .taken))
+    let rest = c .before .before .before in
+    let low = rest .before .lowest .ensures in
+    let some = rest .before .before .loop-test .taken in
+    rest .rest .ensures _ some low .fewer (low .inside some)
 
 loop-again : tie.Need-loop-again Inv-loop μ-loop
 loop-again c =
     λ l.
-    let less = c .before .before .before in
-    let low = less .before .lowest .ensures in
-    let turn = less .before .before in
+    let rest = c .before .before .before in
+    let low = rest .before .lowest .ensures in
+    let turn = rest .before .before in
     let a = turn .before .before .args in
     let (lm, p) = turn .before .loop .inv l in
     let st = c .before .stepped .ensures in (
       st .long lm,
       stepping-more (tables (now (a .heads)) (now (a .fragments)) (now (a .names)) (now (a .ranges))) (a .noted) (a .who) (a .name) (a .time) (rulesIn (now (a .m)))
-          p (low .inside (turn .loop-test .taken)) (low .rule) (less .less .ensures) st lm (c .marked .ensures),
+          p (low .inside (turn .loop-test .taken)) (low .rule) (rest .rest .ensures _ (turn .loop-test .taken) low) st lm (c .marked .ensures),
     )
 
 returns : tie.Need-returns Inv-loop μ-loop
@@ -78,4 +80,4 @@ returns c =
     }
 
 pub all-stepped-spec : {M : Type 1} → statement M
-all-stepped-spec = tie.close (tie.spec Inv-loop μ-loop loop-holds lowest-requires less-requires stepped-requires marked-requires loop-less loop-again returns)
+all-stepped-spec = tie.close (tie.spec Inv-loop μ-loop loop-holds lowest-requires rest-requires stepped-requires marked-requires loop-less loop-again returns)

@@ -28,8 +28,8 @@ loop-holds c = let a = c .args in noting-start 0 (a .who) (stands (now (a .heads
 lowest-requires : tie.Need-lowest-requires Inv-loop μ-loop
 lowest-requires c κs = search needs
 
-less-requires : tie.Need-less-requires Inv-loop μ-loop
-less-requires c κs = search needs
+rest-requires : tie.Need-rest-requires Inv-loop μ-loop
+rest-requires c κs = search needs
 
 waited-requires : tie.Need-waited-requires Inv-loop μ-loop
 waited-requires c κs = c .before .lowest .ensures .rule
@@ -39,16 +39,18 @@ marked-requires c κs = c .before .before .lowest .ensures .rule
 
 loop-less : tie.Need-loop-less Inv-loop μ-loop
 loop-less c =
-    let less = c .before .before in
-    less .less .ensures .fewer (less .before .lowest .ensures .inside (less .before .before .loop-test .taken))
+    let rest = c .before .before in
+    let low = rest .before .lowest .ensures in
+    let some = rest .before .before .loop-test .taken in
+    rest .rest .ensures _ some low .fewer (low .inside some)
 
 loop-again : tie.Need-loop-again Inv-loop μ-loop
 loop-again c =
-    let less = c .before .before in
-    let low = less .before .lowest .ensures in
-    let turn = less .before .before in
+    let rest = c .before .before in
+    let low = rest .before .lowest .ensures in
+    let turn = rest .before .before in
     let a = turn .before .before .args in
-    noting-more 0 (a .who) (stands (now (a .heads)) (now (a .m)) (a .time)) (turn .before .loop .inv) (low .inside (turn .loop-test .taken)) (low .rule) (less .less .ensures)
+    noting-more 0 (a .who) (stands (now (a .heads)) (now (a .m)) (a .time)) (turn .before .loop .inv) (low .inside (turn .loop-test .taken)) (low .rule) (rest .rest .ensures _ (turn .loop-test .taken) low)
     (c .before .waited .ensures) (c .marked .ensures)
 
 returns : tie.Need-returns Inv-loop μ-loop
@@ -56,4 +58,4 @@ returns c =
     let a = c .before .before .args in noting-end 0 (a .who) (stands (now (a .heads)) (now (a .m)) (a .time)) (c .before .loop .inv) (omega (arith, c .loop-test .left))
 
 pub all-waited-spec : {M : Type 1} → statement M
-all-waited-spec = tie.close (tie.spec Inv-loop μ-loop loop-holds lowest-requires less-requires waited-requires marked-requires loop-less loop-again returns)
+all-waited-spec = tie.close (tie.spec Inv-loop μ-loop loop-holds lowest-requires rest-requires waited-requires marked-requires loop-less loop-again returns)
