@@ -110,7 +110,7 @@ fn observation(name: u32, time: u32) -> Observation
 }
 
 // One observation: an event or a clock reading. One call serves both, so that the compiled library has the monitor's code once, without a call to it.
-// The parameters stand in the order in which they are needed: C's convention hands over the first six in registers, and every observation needs these.
+// The parameters stand in the order in which they are needed: C's convention hands over the first six in registers, and an observation that concerns no rule needs the first four alone, and heads where a deadline runs.
 #[no_mangle]
 pub extern "C" fn guard_lent_observe<'a>(
     monitor: &mut [u64; 34],

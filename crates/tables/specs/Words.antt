@@ -49,7 +49,7 @@ countIn word = cap mostRanges (word / 256)
 
 -- ---- a range's
 
--- a name, whatever the number; and its place in a set of names
+-- the byte of a name; and the name's place in a set of names, whatever the number
 abbrev pub nameIn : ℕ → ℕ
 nameIn word = word % 256
 
