@@ -15,7 +15,7 @@ use borrow.Author.Tests.{eqb-true, eq-eqb, ne-eqb, lt-ltb}
 use Rattle.names.specs.Names.{member}
 use Rattle.names.proofs.Digits.{member-or, member-power}
 use Rattle.names.proofs.Sets.{member-empty}
-use Rattle.masks.specs.Masks.{maskN, isRule, Union, Without, With, Less}
+use Rattle.masks.specs.Masks.{Union, Without, With, Less}
 use Rattle.masks.proofs.Members.{mask-is}
 use Rattle.step.specs.declared.RuleState.{RuleState}
 use Rattle.step.specs.declared.Stepped.{Stepped}

@@ -1,6 +1,4 @@
 -- `rules::marked` meets its contract: the shift and the `or` set the bits of rule r. Assumes nothing.
-use mathlib.Core.Path.{ap}
-use lib.Bits.{bitOr}
 use Rattle.rules.proofs.Passing.{marks-or}
 use borrow.Author.Needs.{needs}
 use Rattle.rules.proofs.marked.Statement.{statement}

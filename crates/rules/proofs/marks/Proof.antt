@@ -1,5 +1,5 @@
 -- `rules::marks` meets its contract: at each return the tests are as there. Assumes nothing.
-use borrow.Author.Tests.{eq-eqb, ne-eqb}
+use borrow.Author.Tests.{ne-eqb}
 use Rattle.rules.specs.Pass.{marksOf}
 use Rattle.rules.proofs.marks.Statement.{statement}
 use Rattle.rules.proofs.marks.Tie as tie
