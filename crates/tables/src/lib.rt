@@ -2,6 +2,8 @@
 ghost use mathlib.Core.Path.{_≡_};
 ghost use mathlib.Core.Bool.{cond};
 ghost use lib.Dec.{eqb};
+ghost use Prim.Native.Nat.{_<_, _≤_};
+ghost use Rattle.tables.specs.Cells.{fragmentIn, indexIn, roleIn, beforeIn, anyIn, lessIn, leastIn, mostIn, cellOf, maskIn, limitIn};
 ghost use Rattle.tables.specs.Words.{kindIn, countPIn, countQIn, triggerIn, timeIn, roundIn, lastIn, joinIn, countIn, nameIn, bitIn, lowIn, highIn};
 
 // ---- a rule's head
@@ -108,4 +110,68 @@ pub fn high(word: u64) -> u16
     ensures { λ r. ⌜ r ≡ highIn word ⌝ }
 {
     (word / 16777216 % 65536) as u16
+}
+
+// ---- a cell: what a rule says of one of its names
+
+pub fn fragment_in(cell: u64) -> u8
+    ensures { λ r. ⌜ r ≡ fragmentIn cell ⌝ }
+{
+    (cell % 16) as u8
+}
+
+pub fn index_in(cell: u64) -> u8
+    ensures { λ r. ⌜ r ≡ indexIn cell ⌝ }
+{
+    (cell / 16 % 8) as u8
+}
+
+pub fn role_in(cell: u64) -> u8
+    ensures { λ r. ⌜ r ≡ roleIn cell ⌝ }
+{
+    (cell / 128 % 8) as u8
+}
+
+pub fn before_in(cell: u64) -> u8
+    ensures { λ r. ⌜ r ≡ beforeIn cell ⌝ }
+{
+    (cell / 1024 % 16) as u8
+}
+
+pub fn any_in(cell: u64) -> u8
+    ensures { λ r. ⌜ r ≡ anyIn cell ⌝ }
+{
+    (cell / 16384 % 2) as u8
+}
+
+pub fn less_in(cell: u64) -> u8
+    ensures { λ r. ⌜ r ≡ lessIn cell ⌝ }
+{
+    (cell / 32768 % 8) as u8
+}
+
+pub fn least_in(cell: u64) -> u16
+    ensures { λ r. ⌜ r ≡ leastIn cell ⌝ }
+{
+    (cell / 4294967296 % 65536) as u16
+}
+
+pub fn most_in(cell: u64) -> u16
+    ensures { λ r. ⌜ r ≡ mostIn cell ⌝ }
+{
+    (cell / 281474976710656 % 65536) as u16
+}
+
+// ---- a word of the table: the rules that hold a name, and a rule's t
+
+pub fn mask_in(word: u64) -> u16
+    ensures { λ r. ⌜ r ≡ maskIn word ⌝ }
+{
+    (word % 65536) as u16
+}
+
+pub fn limit_in(word: u64) -> u32
+    ensures { λ r. ⌜ r ≡ limitIn word ⌝ }
+{
+    (word % 4294967296) as u32
 }
