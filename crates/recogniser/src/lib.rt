@@ -1,9 +1,9 @@
 // The recogniser of a range (document 01): the table of moves, in document 01's numbers. Every number stands for a state, a class or a join, so nothing is asked of them.
-// A caller takes the column of a class once, then the entry of each range in it, and asks what an entry with a condition says.
+// `next_state` is what a caller asks: the column of a class, the entry of a state in it, and what an entry with a condition says.
 ghost use mathlib.Core.Path.{_≡_};
 ghost use Prim.Native.Nat.{min};
 ghost use Rattle.pattern.specs.Recogniser.{stateNumber};
-ghost use Rattle.recogniser.specs.Numbers.{joinOf, bounds};
+ghost use Rattle.recogniser.specs.Numbers.{joinOf, bounds, nextState};
 ghost use Rattle.recogniser.specs.Entries.{entryState, entryIn, IsColumn};
 
 // "0 idle, 1 fragment not begun, 2 waiting while a sibling has begun, 3 counting, 4 done, 5 error".
@@ -48,7 +48,7 @@ const MOVES: [u32; 4] = [
 ];
 
 // The state that an entry of the table says, for a range with bounds u and v in a fragment of this join, where count events of its block have come.
-pub fn decided(entry: u8, join: u8, count: u16, u: u16, v: u16) -> u8
+fn decided(entry: u8, join: u8, count: u16, u: u16, v: u16) -> u8
     ensures { λ r. ⌜ r ≡ stateNumber (entryState (joinOf join) (bounds u v) count entry) ⌝ }
 {
     match entry {
@@ -69,7 +69,7 @@ fn at_most(n: u8, most: u8) -> u8
 }
 
 // The column of a class. A class that is known where this is called has a constant for its column: no index is computed.
-pub fn column(class: u8) -> u32
+fn column(class: u8) -> u32
     ensures { λ r. ⌜ IsColumn class r ⌝ }
 {
     if class < OTHER {
@@ -79,8 +79,19 @@ pub fn column(class: u8) -> u32
 }
 
 // The entry of a column for a state. One up to 5 is the state after the event; the others have a condition.
-pub fn entry(column: u32, state: u8) -> u8
+fn entry(column: u32, state: u8) -> u8
     ensures { λ r. ⌜ r ≡ entryIn column state ⌝ }
 {
     ((column >> (4 * at_most(state, ERROR))) & 15) as u8
+}
+
+// The state after an event of a class, for a range with bounds u and v in a fragment of this join, where count events of its block have come.
+pub fn next_state(state: u8, class: u8, join: u8, count: u16, u: u16, v: u16) -> u8
+    ensures { λ r. ⌜ r ≡ nextState state class join count u v ⌝ }
+{
+    let e = entry(column(class), state);
+    if e <= 5 {
+        return e;
+    }
+    decided(e, join, count, u, v)
 }

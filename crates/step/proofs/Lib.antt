@@ -1,5 +1,1 @@
-pub mod Slots
-mod Ending
-mod Acts
-pub mod Status
-pub mod Links
+mod Room

@@ -1,77 +1,77 @@
--- One rule over the tables of a book, as lists of numbers: what the code's functions compute, for every table and every state. It is the crate `pattern`'s model with a fragment's
--- ranges and names looked up (`proofs/Links` proves that, for the book of a sheet). No promise of an exported call cites it.
+-- One rule over a book's table, in numbers: what the code's functions compute, for every table and every state. For the table of a sheet it is the crate `pattern`'s model (`proofs/Links`
+-- proves that). No promise of an exported call cites it.
 -- Assumes nothing.
-use mathlib.Core.Bool.{Bool, cond, not, _&&_, _||_}
+use mathlib.Core.Bool.{Bool, cond, _&&_, _||_}
 use mathlib.Core.List.{List}
-use Prim.Native.Nat.{ℕ, _+_, _*_, _%_}
-use lib.Dec.{leb, eqb}
-use lib.ListN.{getD}
-use Rattle.names.specs.Names.{member}
-use Rattle.tables.specs.Words.{joinIn, countIn}
-use Rattle.fragment.specs.declared.Turned.{Turned}
-use Rattle.fragment.specs.Fragments.{Ranges, turnOf, zeros, begunStates, completeOf, growsOf}
-use Rattle.deadline.specs.declared.Plan.{Plan}
-use Rattle.deadline.specs.Plans.{followsOf, endOf, seenOf, dueOf}
+use Prim.Native.Nat.{ℕ, _+_, _%_}
+use lib.Dec.{eqb}
+use lib.ListN.{getD, set}
+use Rattle.recogniser.specs.Numbers.{nextState}
+use Rattle.tables.specs.Cells.{fragmentIn, indexIn, roleIn, beforeIn, anyIn, leastIn, mostIn, limitAt, cellAt, limitIn}
+use Rattle.fragment.specs.Fragments.{zeros, begunOf, completeOf, growsOf}
+use Rattle.deadline.specs.Deadlines.{lateOf, endOf}
 use Rattle.step.specs.declared.RuleState.{RuleState}
 use Rattle.step.specs.declared.Stepped.{Stepped}
-use Rattle.step.specs.declared.Moved.{Moved}
 
--- ---- how a rule stands: 0 whole, 1 open, 2 open and a deadline runs, 3 broken
+-- how a rule stands: 0 whole, 1 open, 2 open and a deadline runs, 3 broken
 
-unfoldable pub runsOf : Plan → ℕ → Bool → Bool → Bool
-runsOf p f complete grows = eqb (p .kind) 2 && (leb (p .first) f || leb (p .first) (followsOf f (p .last)) && (complete && not grows))
+-- an error: the state is not looked at any more
+abbrev pub brokenOf : RuleState → Stepped
+brokenOf st = record { state = st; standing = 3 }
 
-unfoldable pub standingOf : Plan → ℕ → Bool → Bool → ℕ → ℕ → ℕ
-standingOf p f complete grows end now =
-    cond (complete && leb (p .last) (f + 1)) 0
-    (cond (runsOf p f complete grows) (dueOf p end now) 1)
+-- after an event that is no error, on a name with this cell, by the role of its fragment: in P, at the end of a P that a deadline follows, in Q, at its end, at a trigger
+unfoldable pub standingOf : ℕ → List ℕ → ℕ → ℕ
+standingOf cell states count =
+    cond (eqb (roleIn cell) 0) 1
+    (cond (eqb (roleIn cell) 2) 2
+    (cond (eqb (roleIn cell) 1) (cond (completeOf cell states count) (cond (growsOf cell states count) 1 2) 1)
+    (cond (completeOf cell states count) 0 (cond (eqb (roleIn cell) 3) 2 1))))
 
--- a state that has no error, and how it stands
-unfoldable pub settledOf : Ranges → Plan → RuleState → ℕ → Stepped
-settledOf g p st now = record {
-  state = st;
-  standing = standingOf p (st .fragment) (completeOf g (st .states) (st .count)) (growsOf g (st .states) (st .count)) (st .end) now;
+unfoldable pub stoodOf : ℕ → ℕ → List ℕ → ℕ → ℕ → ℕ → Stepped
+stoodOf cell name states count end now = record {
+  state = record { fragment = fragmentIn cell; current = name; states = states; count = count; end = endOf cell end now };
+  standing = standingOf cell states count;
 }
 
--- a state whose standing is sure, or else one that has no error
-unfoldable pub stoodOf : Ranges → Plan → Moved → ℕ → Stepped
-stoodOf g p m now = cond (m .sure) (record { state = m .state; standing = m .standing }) (settledOf g p (m .state) now)
+-- the first event of a fragment, or the trigger that releases the rule
+unfoldable pub beginOf : ℕ → ℕ → ℕ → ℕ → Stepped
+beginOf cell name end now =
+    cond (eqb (roleIn cell) 5)
+    (record { state = record { fragment = fragmentIn cell; current = name; states = zeros; count = 1; end = end }; standing = 0 })
+    (stoodOf cell name (begunOf cell) 1 end now)
 
--- ---- one rule of the tables
+-- the table of moves for a cell's range: own (0) and sibling (1)
+abbrev pub movedBy : ℕ → ℕ → ℕ → ℕ → ℕ
+movedBy cell class state count = nextState state class (anyIn cell) count (leastIn cell) (mostIn cell)
 
-pub record Tables : Type 0 where
-  pub heads : List ℕ
-  pub fragments : List ℕ
-  pub names : List ℕ
-  pub ranges : List ℕ
+-- an event of the range that counts (3)
+unfoldable pub longerOf : ℕ → RuleState → ℕ → ℕ → Stepped
+longerOf cell st name now =
+    cond (eqb (movedBy cell 0 3 (st .count)) 5) (brokenOf st)
+    (stoodOf cell name (st .states) (st .count + 1) (st .end) now)
 
--- the ranges of fragment k of the book
-unfoldable pub rangesOf : List ℕ → List ℕ → ℕ → Ranges
-rangesOf fragments ranges k = record { words = ranges; base = 8 * k; size = countIn (getD fragments k 0); join = joinIn (getD fragments k 0) }
+-- an event of another range of the fragment, with cell c; the one with cell d counts. Every other range sees a sibling and waits or is done, which that leaves as it is
+unfoldable pub otherOf : ℕ → ℕ → RuleState → ℕ → ℕ → Stepped
+otherOf c d st name now =
+    let own : ℕ = movedBy c 0 (getD (st .states) (indexIn c) 0) (st .count) in
+    let old : ℕ = movedBy d 1 3 (st .count) in
+    cond (eqb own 5 || eqb old 5) (brokenOf st)
+    (stoodOf c name (set (set (st .states) (indexIn d) old) (indexIn c) own) 1 (st .end) now)
 
--- a fragment that begins, or the trigger that releases the rule
-unfoldable pub beginOf : Ranges → Plan → ℕ → ℕ → ℕ → ℕ → Stepped
-beginOf g p f end name now =
-    cond (eqb (p .kind) 0 && leb (p .first) f)
-    (record { state = record { fragment = f; states = zeros; count = 1; end = endOf p f end now }; standing = 0 })
-    (settledOf g p (record { fragment = f; states = begunStates g name; count = 1; end = endOf p f end now }) now)
+-- an event that is not of the fragment at which the rule stands
+unfoldable pub passOf : ℕ → ℕ → RuleState → ℕ → ℕ → Stepped
+passOf c d st name now = cond (eqb (beforeIn c) (st .fragment) && completeOf d (st .states) (st .count)) (beginOf c name (st .end) now) (brokenOf st)
 
--- the rule stays in its fragment
-unfoldable pub stayOf : Ranges → Plan → RuleState → ℕ → Turned → ℕ → Stepped
-stayOf g p st f x now =
-    let o : RuleState = record { fragment = f; states = x .states; count = x .count; end = endOf p f (st .end) now } in
-    cond (x .bad) (record { state = o; standing = 3 }) (settledOf g p o now)
+abbrev pub cellIn : List ℕ → ℕ → ℕ → ℕ
+cellIn table r name = getD table (cellAt r (name % 64)) 0
 
--- an event on one of the rule's names
-unfoldable pub actOf : List ℕ → List ℕ → List ℕ → ℕ → Plan → RuleState → ℕ → ℕ → Stepped
-actOf fragments names ranges r p st name now =
-    let f : ℕ = st .fragment % 16 in
-    let next : ℕ = followsOf f (p .last) % 16 in
-    let here : Bool = member (getD names (16 * r + f) 0) name in
-    let there : Bool = member (getD names (16 * r + next) 0) name in
-    let g : Ranges = rangesOf fragments ranges (16 * r + f) in
-    let x : Turned = turnOf g name (seenOf p f next here there (st .end) now) (st .states) (st .count) in
-    cond (eqb (p .kind) 0 && leb (p .first) f) (record { state = st; standing = 0 })
-    (cond (not here && x .idle)
-    (beginOf (rangesOf fragments ranges (16 * r + next)) p next (st .end) name now)
-    (stayOf g p st f x now))
+-- an event on one of the rule's names; a count of 0 is that of a rule to which nothing has come
+unfoldable pub actOf : List ℕ → ℕ → RuleState → ℕ → ℕ → Stepped
+actOf table r st name now =
+    let c : ℕ = cellIn table r name in
+    let d : ℕ = cellIn table r (st .current) in
+    cond (eqb (st .count) 0) (cond (eqb (fragmentIn c) 0) (beginOf c name (st .end) now) (brokenOf st))
+    (cond (eqb (roleIn d) 5) (record { state = st; standing = 0 })
+    (cond (lateOf c (limitIn (getD table (limitAt r) 0)) (st .end) now) (brokenOf st)
+    (cond (eqb (fragmentIn c) (st .fragment)) (cond (eqb name (st .current)) (longerOf c st name now) (otherOf c d st name now))
+    (passOf c d st name now))))

@@ -1,16 +1,15 @@
-// One rule of a book at an event (document 01, "The recogniser of a range"): the rule's state by value, the book's arrays lent by reference.
-// An index that comes from a table or a state is reduced by a remainder, so that nothing is asked of either.
+// One rule of a book at an event (document 01, "The recogniser of a range"): the rule's state by value, the book's table lent by reference.
+// An event moves two ranges at most, its own and the one that counts: every other one waits or is done, and a sibling's event leaves it so. The cell of a name has all that is asked of its
+// range and of the fragment. A name and a rule's number are reduced by a remainder, so that nothing is asked of them, of the table or of the state.
 ghost use mathlib.Core.Path.{_≡_};
-ghost use mathlib.Core.Bool.{false, not, _&&_};
-ghost use Prim.Native.Nat.{_+_, _*_, _%_, _<_, _≤_};
-ghost use lib.Dec.{leb, eqb};
-ghost use Rattle.fragment.specs.Fragments.{turnOf, allOver, growsOf, completeOf};
-ghost use Rattle.step.specs.Steps.{runsOf, settledOf, rangesOf, stoodOf, beginOf, stayOf, actOf};
-use deadline::Plan;
+ghost use Prim.Native.Nat.{_%_};
+ghost use Rattle.step.specs.Steps.{brokenOf, standingOf, stoodOf, beginOf, movedBy, longerOf, otherOf, passOf, cellIn, actOf};
 
-// "The monitor's state holds, for each rule, its fragment number, eight recogniser states, one count and the end time of P."
+// "The monitor's state holds, for each rule, its fragment number, eight recogniser states, one count and the end time of P." Beside them the name whose range counts, by which its cell is
+// found. A count of 0 is that of a rule to which nothing has come.
 pub struct RuleState {
     pub fragment: u8,
+    pub current: u8,
     pub states: [u8; 8],
     pub count: u16,
     pub end: u32,
@@ -22,251 +21,182 @@ pub struct Stepped {
     pub standing: u8,
 }
 
-// A rule's state after an event. Where the event alone decides how the rule stands, as a trigger of kind 0 or an error does, that is sure; else it is asked of the state.
-pub struct Moved {
-    pub state: RuleState,
-    pub sure: bool,
-    pub standing: u8,
-}
-
-// ---- how a rule stands
-
-// Every range of fragment k is over, asked by a class of events (`fragment::all_over`). The fragment's word is looked up here, since most events end where no range need be asked.
-fn over_at(fragments: &[u16; 256], ranges: &[u64; 2048], k: usize, st: RuleState, class: u8) -> bool
-    requires { ⌜ k < 256 ⌝ }
-    ensures { λ r. ⌜ r ≡ allOver (rangesOf (now (fragments .entry)) (now (ranges .entry)) k) class (st .states) (st .count) ⌝ }
+// An error. The book stops, and the state is not looked at any more.
+fn broken(st: RuleState) -> Stepped
+    ensures { λ s. ⌜ s ≡ brokenOf st ⌝ }
 {
-    let word = fragments[k];
-    let states = st.states;
-    fragment::all_over(
-        ranges,
-        8 * k,
-        tables::ranges_in(word) as usize,
-        tables::join(word),
-        states,
-        st.count,
-        class,
-    )
-}
-
-// The rule's next event would have to be of Q and in time. The ranges are looked at only in the last fragment of P.
-fn runs(fragments: &[u16; 256], ranges: &[u64; 2048], k: usize, p: Plan, st: RuleState) -> bool
-    requires { ⌜ (k < 256) × (st .fragment < 16) ⌝ }
-    ensures { λ r. ⌜ r ≡ runsOf p (st .fragment) (completeOf (rangesOf (now (fragments .entry)) (now (ranges .entry)) k) (st .states) (st .count)) (growsOf (rangesOf (now (fragments .entry)) (now (ranges .entry)) k) (st .states) (st .count)) ⌝ }
-{
-    if p.kind != 2 {
-        return false;
-    }
-    if p.first <= st.fragment {
-        return true;
-    }
-    if deadline::follows(st.fragment, p.last) < p.first {
-        return false;
-    }
-    if over_at(fragments, ranges, k, st, 2) {
-        return over_at(fragments, ranges, k, st, 0);
-    }
-    false
-}
-
-// The round is complete. The ranges are looked at only in its last fragment.
-fn whole(fragments: &[u16; 256], ranges: &[u64; 2048], k: usize, p: Plan, st: RuleState) -> bool
-    requires { ⌜ (k < 256) × (st .fragment < 16) ⌝ }
-    ensures { λ r. ⌜ r ≡ (completeOf (rangesOf (now (fragments .entry)) (now (ranges .entry)) k) (st .states) (st .count) && leb (p .last) (st .fragment + 1)) ⌝ }
-{
-    if p.last <= st.fragment + 1 {
-        return over_at(fragments, ranges, k, st, 2);
-    }
-    false
-}
-
-// How a rule stands in a state that has no error.
-fn standing(
-    fragments: &[u16; 256],
-    ranges: &[u64; 2048],
-    k: usize,
-    p: Plan,
-    st: RuleState,
-    time: u32,
-) -> u8
-    requires { ⌜ (k < 256) × (st .fragment < 16) ⌝ }
-    ensures { λ r. ⌜ r ≡ settledOf (rangesOf (now (fragments .entry)) (now (ranges .entry)) k) p st time .standing ⌝ }
-{
-    if whole(fragments, ranges, k, p, st) {
-        return 0;
-    }
-    if runs(fragments, ranges, k, p, st) {
-        return deadline::due(p, st.end, time);
-    }
-    1
-}
-
-// ---- one rule
-
-// The first event of a fragment; or the trigger of kind 0, which releases the rule.
-fn begins(
-    ranges: &[u64; 2048],
-    base: usize,
-    size: usize,
-    join: u8,
-    p: Plan,
-    f: u8,
-    end: u32,
-    name: u8,
-    time: u32,
-) -> Moved
-    requires { ⌜ (base ≤ 2040) × (size ≤ 8) ⌝ }
-    ensures { λ r. ⌜ (r .state .fragment ≡ f) × (stoodOf (record { words = now (ranges .entry); base = base; size = size; join = join }) p r time ≡ beginOf (record { words = now (ranges .entry); base = base; size = size; join = join }) p f end name time) ⌝ }
-{
-    let e = deadline::ended(p, f, end, time);
-    if deadline::releases(p, f) {
-        return Moved {
-            state: RuleState {
-                fragment: f,
-                states: [0u8; 8],
-                count: 1,
-                end: e,
-            },
-            sure: true,
-            standing: 0,
-        };
-    }
-    let x = fragment::begun_states(ranges, base, size, join, name);
-    Moved {
-        state: RuleState {
-            fragment: f,
-            states: x,
-            count: 1,
-            end: e,
-        },
-        sure: false,
-        standing: 1,
-    }
-}
-
-// The rule stays in fragment f, which has seen the event so. An error breaks it.
-fn stays(
-    ranges: &[u64; 2048],
-    base: usize,
-    size: usize,
-    join: u8,
-    p: Plan,
-    st: RuleState,
-    f: u8,
-    name: u8,
-    seen: u8,
-    time: u32,
-) -> Moved
-    requires { ⌜ (base ≤ 2040) × (size ≤ 8) ⌝ }
-    ensures { λ r. ⌜ (r .state .fragment ≡ f) × (stoodOf (record { words = now (ranges .entry); base = base; size = size; join = join }) p r time ≡ stayOf (record { words = now (ranges .entry); base = base; size = size; join = join }) p st f (turnOf (record { words = now (ranges .entry); base = base; size = size; join = join }) name seen (st .states) (st .count)) time) ⌝ }
-{
-    let old = st.states;
-    let x = fragment::turn(ranges, base, size, join, old, st.count, name, seen);
-    let states = x.states;
-    Moved {
-        state: RuleState {
-            fragment: f,
-            states: states,
-            count: x.count,
-            end: deadline::ended(p, f, st.end, time),
-        },
-        sure: x.bad,
+    Stepped {
+        state: st,
         standing: 3,
     }
 }
 
-// "An event seen as *next* by every range of the fragment, without error, is also the first event of the following one." Only a name that the fragment has not can be one.
-fn passes(
-    ranges: &[u64; 2048],
-    base: usize,
-    size: usize,
-    join: u8,
-    st: RuleState,
-    here: bool,
-    seen: u8,
-) -> bool
-    requires { ⌜ (base ≤ 2040) × (size ≤ 8) ⌝ }
-    ensures { λ r. ⌜ r ≡ (not here && allOver (record { words = now (ranges .entry); base = base; size = size; join = join }) seen (st .states) (st .count)) ⌝ }
+// ---- after an event that is no error
+
+// How the rule stands, by the role of the fragment (`tables/specs/Cells`). The ranges are asked only where it may be at an end.
+fn standing(cell: u64, states: [u8; 8], count: u16) -> u8
+    ensures { λ r. ⌜ r ≡ standingOf cell states count ⌝ }
 {
-    if here {
-        return false;
+    let role = tables::role_in(cell);
+    if role == 0 {
+        return 1;
     }
-    let states = st.states;
-    fragment::all_over(ranges, base, size, join, states, st.count, seen)
+    if role == 2 {
+        return 2;
+    }
+    if role == 1 {
+        if fragment::complete(cell, states, count) {
+            if fragment::grows(cell, states, count) {
+                return 1;
+            }
+            return 2;
+        }
+        return 1;
+    }
+    if fragment::complete(cell, states, count) {
+        return 0;
+    }
+    if role == 3 {
+        return 2;
+    }
+    1
 }
 
-// An event on one of the names of a rule that is not released.
-fn moves<'a>(
-    fragments: &'a [u16; 256],
-    names: &'a [u64; 256],
-    ranges: &'a [u64; 2048],
-    rule: usize,
-    p: Plan,
-    st: RuleState,
-    name: u8,
-    time: u32,
-) -> Moved
-    requires { ⌜ (rule < 16) × ((eqb (p .kind) 0 && leb (p .first) (st .fragment % 16)) ≡ false) ⌝ }
-    ensures { λ m. ⌜ (m .state .fragment < 16) × (stoodOf (rangesOf (now (fragments .entry)) (now (ranges .entry)) (16 * rule + m .state .fragment)) p m time ≡ actOf (now (fragments .entry)) (now (names .entry)) (now (ranges .entry)) rule p st name time) ⌝ }
+// The rule stands at the cell's fragment, whose range counts.
+fn stood(cell: u64, name: u8, states: [u8; 8], count: u16, end: u32, time: u32) -> Stepped
+    ensures { λ s. ⌜ s ≡ stoodOf cell name states count end time ⌝ }
 {
-    let f = st.fragment % 16;
-    let k = 16 * rule + f as usize;
-    let word = fragments[k];
-    let size = tables::ranges_in(word) as usize;
-    let join = tables::join(word);
-    let here = names::has(names[k], name);
-    let how = deadline::seen(names, rule, p, f, here, name, st.end, time);
-    if passes(ranges, 8 * k, size, join, st, here, how) {
-        let next = deadline::follows(f, p.last) % 16;
-        let n = 16 * rule + next as usize;
-        let w = fragments[n];
-        return begins(
-            ranges,
-            8 * n,
-            tables::ranges_in(w) as usize,
-            tables::join(w),
-            p,
-            next,
-            st.end,
-            name,
-            time,
-        );
+    let k = standing(cell, states, count);
+    Stepped {
+        state: RuleState {
+            fragment: tables::fragment_in(cell),
+            current: name,
+            states: states,
+            count: count,
+            end: deadline::ended(cell, end, time),
+        },
+        standing: k,
     }
-    stays(ranges, 8 * k, size, join, p, st, f, name, how, time)
+}
+
+// ---- an event
+
+// The first event of a fragment; or the trigger of kind 0, which releases the rule.
+fn begins(cell: u64, name: u8, end: u32, time: u32) -> Stepped
+    ensures { λ s. ⌜ s ≡ beginOf cell name end time ⌝ }
+{
+    if tables::role_in(cell) == 5 {
+        return Stepped {
+            state: RuleState {
+                fragment: tables::fragment_in(cell),
+                current: name,
+                states: [0u8; 8],
+                count: 1,
+                end: end,
+            },
+            standing: 0,
+        };
+    }
+    let states = fragment::begun(cell);
+    stood(cell, name, states, 1, end, time)
+}
+
+// A move of the cell's range, by the table.
+fn moved(cell: u64, class: u8, state: u8, count: u16) -> u8
+    ensures { λ r. ⌜ r ≡ movedBy cell class state count ⌝ }
+{
+    recogniser::next_state(
+        state,
+        class,
+        tables::any_in(cell),
+        count,
+        tables::least_in(cell),
+        tables::most_in(cell),
+    )
+}
+
+// An event of the range that counts.
+fn longer(cell: u64, st: RuleState, name: u8, time: u32) -> Stepped
+    ensures { λ s. ⌜ s ≡ longerOf cell st name time ⌝ }
+{
+    let count = st.count;
+    if moved(cell, 0, 3, count) == 5 {
+        return broken(st);
+    }
+    let states = st.states;
+    stood(cell, name, states, count + 1, st.end, time)
+}
+
+// An event of another range of the fragment, with cell c: its block begins, and that of the range with cell d ends.
+fn other(c: u64, d: u64, st: RuleState, name: u8, time: u32) -> Stepped
+    ensures { λ s. ⌜ s ≡ otherOf c d st name time ⌝ }
+{
+    let count = st.count;
+    let states = st.states;
+    let i = tables::index_in(c) as usize;
+    let own = moved(c, 0, states[i], count);
+    if own == 5 {
+        return broken(st);
+    }
+    let old = moved(d, 1, 3, count);
+    if old == 5 {
+        return broken(st);
+    }
+    let j = tables::index_in(d) as usize;
+    let mut x = states;
+    x[j] = old;
+    x[i] = own;
+    stood(c, name, x, 1, st.end, time)
+}
+
+// An event that is not of the fragment at which the rule stands. "An event seen as *next* by every range of the fragment, without error, is also the first event of the following one."
+fn passes(c: u64, d: u64, st: RuleState, name: u8, time: u32) -> Stepped
+    ensures { λ s. ⌜ s ≡ passOf c d st name time ⌝ }
+{
+    if tables::before_in(c) != st.fragment {
+        return broken(st);
+    }
+    let states = st.states;
+    if fragment::complete(d, states, st.count) {
+        return begins(c, name, st.end, time);
+    }
+    broken(st)
+}
+
+// The cell of a name.
+fn cell_at(table: &[u64; 1104], rule: usize, name: u8) -> u64
+    ensures { λ c. ⌜ c ≡ cellIn (now (table .entry)) (rule % 16) name ⌝ }
+{
+    table[80 + 64 * (rule % 16) + (name % 64) as usize]
 }
 
 // An event on one of rule r's names.
-pub fn act<'a>(
-    fragments: &'a [u16; 256],
-    names: &'a [u64; 256],
-    ranges: &'a [u64; 2048],
-    r: usize,
-    p: Plan,
-    st: RuleState,
-    name: u8,
-    time: u32,
-) -> Stepped
-    ensures { λ s. ⌜ s ≡ actOf (now (fragments .entry)) (now (names .entry)) (now (ranges .entry)) (r % 16) p st name time ⌝ }
+pub fn act(table: &[u64; 1104], r: usize, st: RuleState, name: u8, time: u32) -> Stepped
+    ensures { λ s. ⌜ s ≡ actOf (now (table .entry)) (r % 16) st name time ⌝ }
 {
-    if deadline::releases(p, st.fragment % 16) {
+    let c = cell_at(table, r, name);
+    if st.count == 0 {
+        if tables::fragment_in(c) == 0 {
+            return begins(c, name, st.end, time);
+        }
+        return broken(st);
+    }
+    let d = cell_at(table, r, st.current);
+    if tables::role_in(d) == 5 {
         return Stepped {
             state: st,
             standing: 0,
         };
     }
-    let rule = r % 16;
-    let m = moves(fragments, names, ranges, rule, p, st, name, time);
-    let o = m.state;
-    if m.sure {
-        return Stepped {
-            state: o,
-            standing: m.standing,
-        };
+    let limit = tables::limit_in(table[64 + r % 16]);
+    if deadline::late(c, limit, st.end, time) {
+        return broken(st);
     }
-    let k = 16 * rule + o.fragment as usize;
-    let s = standing(fragments, ranges, k, p, o, time);
-    Stepped {
-        state: o,
-        standing: s,
+    if tables::fragment_in(c) == st.fragment {
+        if name == st.current {
+            return longer(c, st, name, time);
+        }
+        return other(c, d, st, name, time);
     }
+    passes(c, d, st, name, time)
 }

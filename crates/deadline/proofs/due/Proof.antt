@@ -1,5 +1,5 @@
--- `deadline::due` meets its contract: at each return the test is as in `dueOf`. Assumes nothing.
-use Rattle.deadline.specs.Plans.{dueOf}
+-- `deadline::due` meets its contract. Assumes nothing.
+use Rattle.deadline.specs.Deadlines.{dueOf}
 use borrow.Author.Needs.{needs}
 use Rattle.deadline.proofs.due.Statement.{statement}
 use Rattle.deadline.proofs.due.Tie as tie

@@ -1,16 +1,26 @@
--- `fragment::begun` meets its contract: at each return the test is as in `begunAt`. Assumes nothing.
-use borrow.Author.Tests.{eq-eqb, ne-eqb}
-use Rattle.fragment.specs.Fragments.{begunAt}
+-- `fragment::begun` meets its contract. Assumes nothing.
+use mathlib.Core.Path.{_∙_}
+use native.Mathlib.Omega.{arith}
+use Rattle.fragment.specs.Fragments.{begunOf}
+use borrow.Author.Needs.{needs}
 use Rattle.fragment.proofs.begun.Statement.{statement}
 use Rattle.fragment.proofs.begun.Tie as tie
 
-returns : tie.Need-returns
-unfolding begunAt
-returns c = simp (eq-eqb _ _ (c .if1 .taken))
+cut-requires : tie.Need-cut-requires
+cut-requires c κs = search needs
 
-returns-2 : tie.Need-returns-2
-unfolding begunAt
-returns-2 c = simp (ne-eqb _ _ (c .if1 .left))
+unit-requires : tie.Need-unit-requires
+unit-requires c κs = search needs
+
+add-spread : tie.Need-add-spread
+add-spread c = omega (arith, c .before .cut .ensures .1, c .unit .ensures .1)
+
+spread-requires : tie.Need-spread-requires
+spread-requires c κs = search needs
+
+returns : tie.Need-returns
+unfolding begunOf
+returns c = c .spread .ensures ∙ rw (c .before .before .cut .ensures .0, c .before .unit .ensures .0)
 
 pub begun-spec : {M : Type 1} → statement M
-begun-spec = tie.close (tie.spec returns returns-2)
+begun-spec = tie.close (tie.spec cut-requires unit-requires add-spread spread-requires returns)

@@ -1,39 +1,86 @@
--- `step::act` meets its contract: the rule is released, or it moves as `moves` ensures and stands as `standing` does, unless it is sure. Assumes nothing.
-use mathlib.Core.Path.{sym, _∙_}
-use native.Mathlib.Omega.{arith}
+-- `step::act` meets its contract: at each return the tests are as in `actOf`. Assumes nothing.
+use mathlib.Core.Path.{_∙_}
+use borrow.Author.Tests.{eq-eqb, ne-eqb}
 use Rattle.step.specs.Steps.{actOf}
-use Rattle.step.proofs.Acts.{stands-surely, stands-settled}
 use borrow.Author.Needs.{needs}
 use Rattle.step.proofs.act.Statement.{statement}
 use Rattle.step.proofs.act.Tie as tie
 
-releases-requires : tie.Need-releases-requires
-releases-requires c κs = search needs
+cell-at-requires : tie.Need-cell-at-requires
+cell-at-requires c κs = search needs
+
+fragment-in-requires : tie.Need-fragment-in-requires
+fragment-in-requires c κs = search needs
+
+begins-requires : tie.Need-begins-requires
+begins-requires c κs = search needs
 
 returns : tie.Need-returns
 unfolding actOf
-returns c = rw (← c .before .releases .ensures, c .if1 .taken)
+returns c = c .begins .ensures ∙ rw (eq-eqb _ _ (c .before .before .before .if1 .taken), ← c .before .before .before .before .before .cell-at .ensures, ← c .before .before .fragment-in .ensures, eq-eqb _ _ (c .before .if2 .taken))
 
-moves-requires : tie.Need-moves-requires
-moves-requires c κs = (omega arith, sym (c .before .releases .ensures) ∙ c .if1 .left)
+broken-requires : tie.Need-broken-requires
+broken-requires c κs = search needs
 
 returns-2 : tie.Need-returns-2
-returns-2 c = stands-surely _ _ _ _ (c .if2 .taken) (c .before .before .moves .ensures .1)
+unfolding actOf
+returns-2 c = c .broken .ensures ∙ rw (eq-eqb _ _ (c .before .before .before .if1 .taken), ← c .before .before .before .before .before .cell-at .ensures, ← c .before .before .fragment-in .ensures, ne-eqb _ _ (c .before .if2 .left))
 
-mul-k : tie.Need-mul-k
-mul-k c = search needs
+cell-at-requires-2 : tie.Need-cell-at-requires-2
+cell-at-requires-2 c κs = search needs
 
-cast-k : tie.Need-cast-k
-cast-k c = search needs
-
-add-k : tie.Need-add-k
-add-k c = search needs
-
-standing-requires : tie.Need-standing-requires
-standing-requires c κs = search needs
+role-in-requires : tie.Need-role-in-requires
+role-in-requires c κs = search needs
 
 returns-3 : tie.Need-returns-3
-returns-3 c = stands-settled _ _ _ _ (c .before .before .if2 .left) (c .before .before .before .before .moves .ensures .1) (c .standing .ensures)
+unfolding actOf
+returns-3 c = rw (ne-eqb _ _ (c .before .before .before .if1 .left), ← c .before .before .cell-at2 .ensures, ← c .before .role-in .ensures, eq-eqb _ _ (c .if3 .taken))
+
+add-limit-in : tie.Need-add-limit-in
+add-limit-in c = search needs
+
+mul-limit-in : tie.Need-mul-limit-in
+mul-limit-in c = search needs
+
+element-copy-out-limit-in : tie.Need-element-copy-out-limit-in
+element-copy-out-limit-in c = search needs
+
+limit-in-requires : tie.Need-limit-in-requires
+limit-in-requires c κs = search needs
+
+late-requires : tie.Need-late-requires
+late-requires c κs = search needs
+
+broken-requires-2 : tie.Need-broken-requires-2
+broken-requires-2 c κs = search needs
+
+returns-4 : tie.Need-returns-4
+unfolding actOf
+returns-4 c = c .broken2 .ensures ∙ rw (ne-eqb _ _ (c .before .before .before .before .before .before .before .before .if1 .left), ← c .before .before .before .before .before .before .before .before .before .before .cell-at .ensures, ← c .before .before .before .before .before .before .before .cell-at2 .ensures, ← c .before .before .before .before .before .before .role-in .ensures, ne-eqb _ _ (c .before .before .before .before .before .if3 .left), ← c .before .before .before .limit-in .ensures, ← c .before .before .late .ensures, c .before .if4 .taken)
+
+fragment-in-requires-2 : tie.Need-fragment-in-requires-2
+fragment-in-requires-2 c κs = search needs
+
+longer-requires : tie.Need-longer-requires
+longer-requires c κs = search needs
+
+returns-5 : tie.Need-returns-5
+unfolding actOf
+returns-5 c = c .longer .ensures ∙ rw (ne-eqb _ _ (c .before .before .before .before .before .before .before .before .before .before .before .before .before .if1 .left), ← c .before .before .before .before .before .before .before .before .before .before .before .before .before .before .before .cell-at .ensures, ← c .before .before .before .before .before .before .before .before .before .before .before .before .cell-at2 .ensures, ← c .before .before .before .before .before .before .before .before .before .before .before .role-in .ensures, ne-eqb _ _ (c .before .before .before .before .before .before .before .before .before .before .if3 .left), ← c .before .before .before .before .before .before .before .before .limit-in .ensures, ← c .before .before .before .before .before .before .before .late .ensures, c .before .before .before .before .before .before .if4 .left, ← c .before .before .before .before .before .fragment-in2 .ensures, eq-eqb _ _ (c .before .before .before .if5 .taken), eq-eqb _ _ (c .before .if6 .taken))
+
+other-requires : tie.Need-other-requires
+other-requires c κs = search needs
+
+returns-6 : tie.Need-returns-6
+unfolding actOf
+returns-6 c = c .other .ensures ∙ rw (ne-eqb _ _ (c .before .before .before .before .before .before .before .before .before .before .before .before .before .if1 .left), ← c .before .before .before .before .before .before .before .before .before .before .before .before .before .before .before .cell-at .ensures, ← c .before .before .before .before .before .before .before .before .before .before .before .before .cell-at2 .ensures, ← c .before .before .before .before .before .before .before .before .before .before .before .role-in .ensures, ne-eqb _ _ (c .before .before .before .before .before .before .before .before .before .before .if3 .left), ← c .before .before .before .before .before .before .before .before .limit-in .ensures, ← c .before .before .before .before .before .before .before .late .ensures, c .before .before .before .before .before .before .if4 .left, ← c .before .before .before .before .before .fragment-in2 .ensures, eq-eqb _ _ (c .before .before .before .if5 .taken), ne-eqb _ _ (c .before .if6 .left))
+
+passes-requires : tie.Need-passes-requires
+passes-requires c κs = search needs
+
+returns-7 : tie.Need-returns-7
+unfolding actOf
+returns-7 c = c .passes .ensures ∙ rw (ne-eqb _ _ (c .before .before .before .before .before .before .before .before .before .before .before .if1 .left), ← c .before .before .before .before .before .before .before .before .before .before .before .before .before .cell-at .ensures, ← c .before .before .before .before .before .before .before .before .before .before .cell-at2 .ensures, ← c .before .before .before .before .before .before .before .before .before .role-in .ensures, ne-eqb _ _ (c .before .before .before .before .before .before .before .before .if3 .left), ← c .before .before .before .before .before .before .limit-in .ensures, ← c .before .before .before .before .before .late .ensures, c .before .before .before .before .if4 .left, ← c .before .before .before .fragment-in2 .ensures, ne-eqb _ _ (c .before .if5 .left))
 
 pub act-spec : {M : Type 1} → statement M
-act-spec = tie.close (tie.spec releases-requires returns moves-requires returns-2 mul-k cast-k add-k standing-requires returns-3)
+act-spec = tie.close (tie.spec cell-at-requires fragment-in-requires begins-requires returns broken-requires returns-2 cell-at-requires-2 role-in-requires returns-3 add-limit-in mul-limit-in element-copy-out-limit-in limit-in-requires late-requires broken-requires-2 returns-4 fragment-in-requires-2 longer-requires returns-5 other-requires returns-6 passes-requires returns-7)

@@ -1,26 +1,30 @@
--- `step::begins` meets its contract: at each return the test is as in `beginOf`. Assumes nothing.
-use mathlib.Core.Path.{refl}
-use Rattle.step.specs.Steps.{beginOf, stoodOf}
+-- `step::begins` meets its contract: at each return the test of the role is as in `beginOf`. Assumes nothing.
+use mathlib.Core.Path.{_∙_}
+use borrow.Author.Tests.{eq-eqb, ne-eqb}
+use Rattle.step.specs.Steps.{beginOf}
 use borrow.Author.Needs.{needs}
 use Rattle.step.proofs.begins.Statement.{statement}
 use Rattle.step.proofs.begins.Tie as tie
 
-ended-requires : tie.Need-ended-requires
-ended-requires c κs = search needs
+role-in-requires : tie.Need-role-in-requires
+role-in-requires c κs = search needs
 
-releases-requires : tie.Need-releases-requires
-releases-requires c κs = search needs
+fragment-in-requires : tie.Need-fragment-in-requires
+fragment-in-requires c κs = search needs
 
 returns : tie.Need-returns
-unfolding beginOf stoodOf
-returns c = (refl, rw (← c .before .releases .ensures, c .if1 .taken, c .before .before .ended .ensures))
+unfolding beginOf
+returns c = rw (← c .before .before .role-in .ensures, eq-eqb _ _ (c .before .if1 .taken), c .fragment-in .ensures)
 
-begun-states-requires : tie.Need-begun-states-requires
-begun-states-requires c κs = search needs
+begun-requires : tie.Need-begun-requires
+begun-requires c κs = search needs
+
+stood-requires : tie.Need-stood-requires
+stood-requires c κs = search needs
 
 returns-2 : tie.Need-returns-2
-unfolding beginOf stoodOf
-returns-2 c = (refl, rw (← c .before .before .releases .ensures, c .before .if1 .left, c .begun-states .ensures, c .before .before .before .ended .ensures))
+unfolding beginOf
+returns-2 c = c .stood .ensures ∙ rw (c .before .begun .ensures, ← c .before .before .before .role-in .ensures, ne-eqb _ _ (c .before .before .if1 .left))
 
 pub begins-spec : {M : Type 1} → statement M
-begins-spec = tie.close (tie.spec ended-requires releases-requires returns begun-states-requires returns-2)
+begins-spec = tie.close (tie.spec role-in-requires fragment-in-requires returns begun-requires stood-requires returns-2)
