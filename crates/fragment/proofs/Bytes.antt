@@ -1,11 +1,18 @@
 -- A list of bytes and its word, there and back.
 -- Assumes nothing.
-use mathlib.Core.Path.{_≡_, refl, sym, ap, _∙_}
+use mathlib.Core.Path.{_≡_, refl, sym, ap, ap₂, _∙_}
 use mathlib.Core.List.{List, [], _∷_}
 use Prim.Native.Nat.{ℕ, zero, suc, _+_, _*_, _/_, _%_, _<_}
 use native.Mathlib.Omega.{arith}
 use lib.ListN.{length, getD}
 use Rattle.fragment.specs.Fragments.{digits, wordOf}
+
+-- lists of one length that agree at each place are equal
+pub same-list : {A : Type 0} (d : A) (xs ys : List A) → length xs ≡ length ys → ((k : ℕ) → k < length xs → getD xs k d ≡ getD ys k d) → xs ≡ ys
+same-list d [] [] l h = refl
+same-list d [] (y ∷ ys) l h = absurd (omega (arith, l))
+same-list d (x ∷ xs) [] l h = absurd (omega (arith, l))
+same-list d (x ∷ xs) (y ∷ ys) l h = let a : x ≡ y = h 0 (omega arith) in ap₂ (λ (z : _) (zs : List _). z ∷ zs) a (same-list d xs ys (omega (arith, l)) (λ k g. h (suc k) (omega (arith, g))))
 
 pub digits-cons : (n a above w : ℕ) → a < 256 → w ≡ a + 256 * above → digits (suc n) w ≡ a ∷ digits n above
 digits-cons n a above w h e =

@@ -1,1 +1,6 @@
 mod Room
+mod Indices
+mod Ranges
+pub mod Roles
+pub mod Status
+pub mod Links

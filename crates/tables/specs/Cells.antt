@@ -1,7 +1,7 @@
 -- A rule's cells: for each of its names one number that says all that an event on that name asks of the sheet. It is what observing looks up, in place of the sheet's own tables.
 -- Assumes nothing.
 use mathlib.Core.Path.{_≡_}
-use mathlib.Core.Bool.{Bool, cond, _&&_}
+use mathlib.Core.Bool.{Bool, true, false, cond, _&&_}
 use mathlib.Core.List.{List}
 use Prim.Native.Nat.{ℕ, suc, _+_, _-_, _*_, _/_, _%_, _<_}
 use lib.Dec.{eqb, ltb}
@@ -49,6 +49,11 @@ abbrev pub cellOf : (fragment index role before any less u v : ℕ) → ℕ
 cellOf fragment index role before any less u v = fragment + 16 * index + 128 * role + 1024 * before + 16384 * any + 32768 * less + 4294967296 * u + 281474976710656 * v
 
 -- ---- roles
+
+abbrev pub isTimed : Kind → Bool
+isTimed (once i) = false
+isTimed (repeated i) = false
+isTimed (timed q t) = true
 
 -- after P: the trigger that releases a rule of kind 0 (5), that of a rule of kind 1 (4), the last of Q (3), or one of Q before it (2)
 abbrev pub roleAfter : Kind → Bool → ℕ
