@@ -1,4 +1,4 @@
-// The book of a sheet (document 01: "a translated sheet is a book"): all that the sheet says, in file order, and the tables that a monitor looks up at each event.
+// The book of a sheet (document 01: "a translated sheet is a book"): all that the sheet says, in file order, and the table that a monitor looks up at each event.
 ghost use mathlib.Core.Path.{_≡_};
 ghost use mathlib.Core.Bool.{cond};
 ghost use Prim.Native.Nat.{ℕ, _<_, _≤_};
