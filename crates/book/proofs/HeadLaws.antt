@@ -2,7 +2,7 @@
 -- Assumes nothing.
 use mathlib.Core.Path.{_≡_, sym}
 use mathlib.Core.List.{List, [], _∷_, _++_}
-use Prim.Native.Nat.{ℕ, _+_, _*_, _/_, _%_, _<_}
+use Prim.Native.Nat.{ℕ, _+_, _*_, _<_}
 use native.Mathlib.Omega.{arith}
 use lib.ListN.{length, length-append}
 use Rattle.pattern.specs.Meaning.{Fragment, Kind, once, repeated, timed, Rule, WellFormed}
@@ -13,7 +13,6 @@ use Rattle.layout.specs.Pages.{headerWord}
 use Rattle.layout.proofs.PageLaws.{round-few}
 use Rattle.tables.specs.Words.{kindIn, countPIn, countQIn, triggerIn, timeIn, roundIn}
 use Rattle.tables.proofs.Bounds.{cap-of}
-use Rattle.book.specs.Tables.{keptHead}
 use Rattle.book.specs.Looks.{LooksHead}
 
 -- ---- numbers
@@ -43,7 +42,8 @@ small (once i) p w = record { kind = omega arith; countP = omega (arith, w .p .c
 small (repeated i) p w = record { kind = omega arith; countP = omega (arith, w .p .count); countQ = omega arith; trigger = omega (arith, w .kind); time = omega arith }
 small (timed q t) p w = record { kind = omega arith; countP = omega (arith, w .p .count); countQ = omega (arith, w .kind .0 .count); trigger = omega arith; time = omega (arith, w .kind .1) }
 
-round-length : (K : Kind) (p : List Fragment) → length p + byKind (kindNumber K) (length (inQ K)) 1 ≡ length (p ++ lastFragments K)
+-- its round's length, from what the head says
+pub round-length : (K : Kind) (p : List Fragment) → length p + byKind (kindNumber K) (length (inQ K)) 1 ≡ length (p ++ lastFragments K)
 round-length (once i) p = sym (length-append p (triggerFragment i ∷ []))
 round-length (repeated i) p = sym (length-append p (triggerFragment i ∷ []))
 round-length (timed q t) p = sym (length-append p q)
@@ -56,24 +56,8 @@ head-round r w =
     let f = fields (kindNumber (r .kind)) (length (r .p)) (length (inQ (r .kind))) (triggerOf (r .kind)) (timeOf (r .kind)) (s .kind) (s .countP) (s .countQ) (s .trigger) (s .time) in
     rw (f .countP, f .kind, f .countQ, round-length (r .kind) (r .p)) (cap-of 16 (length (roundOf r)) (round-few r w))
 
--- the head that a book keeps of it: the five fields, with the round's count for Q's
-
-low-fields : (k p above : ℕ) → k < 256 → p < 256 → (k + 256 * (p + 256 * above)) % 65536 ≡ k + 256 * p
-low-fields k p above hk hp = omega arith
-
-high-fields : (k p q above : ℕ) → k < 256 → p < 256 → q < 256 → (k + 256 * (p + 256 * (q + 256 * above))) / 16777216 ≡ above
-high-fields k p q above hk hp hq = omega arith
-
-kept-fields : (k p q i t n : ℕ) → k < 256 → p < 256 → q < 256
-    → (k + 256 * (p + 256 * (q + 256 * (i + 256 * t)))) % 65536 + 65536 * n + 16777216 * ((k + 256 * (p + 256 * (q + 256 * (i + 256 * t)))) / 16777216) ≡ k + 256 * (p + 256 * (n + 256 * (i + 256 * t)))
-kept-fields k p q i t n hk hp hq = rw (low-fields k p (q + 256 * (i + 256 * t)) hk hp, high-fields k p q (i + 256 * t) hk hp hq) (omega arith)
-
-pub looks-head : (r : Rule) → WellFormed r → LooksHead (keptHead (headerWord (headerOf r))) r
-unfolding keptHead
+pub looks-head : (r : Rule) → WellFormed r → LooksHead (headerWord (headerOf r)) r
 looks-head r w =
     let s = small (r .kind) (r .p) w in
-    let n : ℕ = length (roundOf r) in
-    let few : n < 256 = omega (arith, round-few r w) in
-    let f = fields (kindNumber (r .kind)) (length (r .p)) n (triggerOf (r .kind)) (timeOf (r .kind)) (s .kind) (s .countP) few (s .trigger) (s .time) in
-    rw (head-round r w, kept-fields (kindNumber (r .kind)) (length (r .p)) (length (inQ (r .kind))) (triggerOf (r .kind)) (timeOf (r .kind)) n (s .kind) (s .countP) (s .countQ))
-    (record { kind = f .kind; countP = f .countP; trigger = f .trigger; time = f .time; last = f .countQ })
+    let f = fields (kindNumber (r .kind)) (length (r .p)) (length (inQ (r .kind))) (triggerOf (r .kind)) (timeOf (r .kind)) (s .kind) (s .countP) (s .countQ) (s .trigger) (s .time) in
+    record { kind = f .kind; countP = f .countP; countQ = f .countQ; trigger = f .trigger; time = f .time }

@@ -8,11 +8,12 @@ use lib.ListN.{length, take, drop}
 use lib.Seq.{ext-getD, take-append-seam, drop-append-seam}
 use Rattle.pattern.specs.Meaning.{Range, Join, all, any, Fragment, Kind, once, repeated, timed, Rule}
 use Rattle.pattern.specs.Model.{lastFragments, roundOf, fragmentAt, noFragment}
-use Rattle.layout.specs.Layout.{Sheet, joinNumber, kindNumber, triggerOf, timeOf, WellFormedSheet}
+use Rattle.layout.specs.Layout.{Sheet, joinNumber, kindNumber, inQ, triggerOf, timeOf, WellFormedSheet}
 use Rattle.layout.specs.Pages.{noRange, noRule, ruleAt, rangeAt}
 use Rattle.book.specs.Books.{bookOf}
 use Rattle.book.specs.Looks.{Looks}
 use Rattle.book.specs.declared.Book.{Book}
+use Rattle.book.proofs.HeadLaws.{round-length}
 use Rattle.book.proofs.Lookups.{looks}
 
 same-join : (a b : Join) → joinNumber a ≡ joinNumber b → a ≡ b
@@ -32,6 +33,10 @@ same-kind (repeated i) (once j) k e t l = absurd (omega (arith, k))
 same-kind (repeated i) (timed q s) k e t l = absurd (omega (arith, k))
 same-kind (timed q s) (once j) k e t l = absurd (omega (arith, k))
 same-kind (timed q s) (repeated j) k e t l = absurd (omega (arith, k))
+
+-- rules with the same kind's number and the same lengths of P and Q have rounds of the same length
+same-length : (r s : Rule) → kindNumber (r .kind) ≡ kindNumber (s .kind) → length (r .p) ≡ length (s .p) → length (inQ (r .kind)) ≡ length (inQ (s .kind)) → length (roundOf r) ≡ length (roundOf s)
+same-length r s k p q = sym (round-length (r .kind) (r .p)) ∙ rw (k, p, q) (round-length (s .kind) (s .p))
 
 -- rules with the same kind's number, trigger and time, the same length of P and the same round
 same-rule : (r s : Rule) → kindNumber (r .kind) ≡ kindNumber (s .kind) → triggerOf (r .kind) ≡ triggerOf (s .kind) → timeOf (r .kind) ≡ timeOf (s .kind)
@@ -69,7 +74,8 @@ module _ (S T : Sheet) (b : Book) (ls : Looks S b) (lt : Looks T b) where
     rule-same =
         let x = ls .head r hs in
         let y = lt .head r ht in
-        let l : length (roundOf (ruleAt (S .rules) r)) ≡ length (roundOf (ruleAt (T .rules) r)) = sym (x .last) ∙ y .last in
+        let l : length (roundOf (ruleAt (S .rules) r)) ≡ length (roundOf (ruleAt (T .rules) r))
+        = same-length (ruleAt (S .rules) r) (ruleAt (T .rules) r) (sym (x .kind) ∙ y .kind) (sym (x .countP) ∙ y .countP) (sym (x .countQ) ∙ y .countQ) in
         same-rule (ruleAt (S .rules) r) (ruleAt (T .rules) r) (sym (x .kind) ∙ y .kind) (sym (x .trigger) ∙ y .trigger) (sym (x .time) ∙ y .time) (sym (x .countP) ∙ y .countP)
         (ext-getD noFragment _ _ l (λ f h. fragment-same f h (subst (λ (n : ℕ). f < n) l h)))
 

@@ -1,5 +1,10 @@
 pub mod Steps
 pub mod HeadLaws
+pub mod CellBounds
+pub mod CellLaws
+pub mod Turns
+pub mod Once
+pub mod TableLaws
 pub mod SetLaws
 pub mod Lookups
 pub mod Injective

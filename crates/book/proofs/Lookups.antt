@@ -3,26 +3,32 @@
 use mathlib.Core.Path.{_≡_, refl, ap, sym, subst, _∙_}
 use mathlib.Core.Bool.{Bool, true, false, _&&_}
 use mathlib.Core.List.{List}
-use Prim.Native.Nat.{ℕ, _+_, _*_, _<_}
+use Prim.Native.Nat.{ℕ, _+_, _*_, _<_, _≤_, _^_}
 use native.Mathlib.Omega.{arith}
 use lib.Dec.{ltb}
-use lib.ListN.{length, getD, replicate, length-map, List·getD-map}
+use lib.ListN.{length, getD, replicate, length-map, length-replicate, List·getD-map}
 use lib.Seq.{take-all}
-use borrow.Author.Tests.{ltb-true, le-ltb}
-use Rattle.pattern.specs.Lists.{isIn}
-use Rattle.pattern.specs.Meaning.{Range, Fragment, fragmentNames, orderingNames, namesOf, WellFormedRange, WellFormedFragment, WellFormed}
+use borrow.Author.Tests.{ltb-true}
+use Rattle.pattern.specs.Lists.{Distinct, isIn}
+use Rattle.pattern.specs.Meaning.{Range, Fragment, fragmentNames, orderingNames, Rule, namesOf, WellFormedRange, WellFormedFragment, WellFormed}
 use Rattle.pattern.specs.Model.{roundOf, fragmentAt, noFragment}
 use Rattle.names.specs.Names.{member}
-use Rattle.layout.specs.Layout.{Sheet, WellFormedRule, WellFormedSheet}
+use Rattle.layout.specs.Layout.{Sheet, timeOf, WellFormedRule, WellFormedSheet}
 use Rattle.layout.specs.Pages.{fragmentWord, rangeWord, headTable, fragmentTable, rangeTable, noRange, noRule, ruleAt, rangeAt}
 use Rattle.layout.proofs.PageLaws.{head-at, fragment-at, range-at, round-formed, round-few, each-at}
 use Rattle.tables.specs.Words.{roundIn, cap, bitIn, countIn}
-use Rattle.book.specs.Tables.{keptHead, headsKept, fragmentSet, nameTable, ruleSet, ruleTable, maskOf, holderTable, namesFrom, unionFrom}
+use Rattle.tables.specs.Cells.{limitAt, cellAt, maskIn, limitIn, Cell, HoldsRules}
+use Rattle.book.specs.Tables.{stored, fragmentSet, nameTable, ruleSet, ruleTable, maskOf, namesFrom, unionFrom, tableOf}
 use Rattle.book.specs.Books.{bookOf}
 use Rattle.book.specs.Looks.{LooksHead, LooksFragment, LooksRange, Looks}
+use Rattle.tables.proofs.Bounds.{cap-of, cap-small}
 use Rattle.tables.proofs.WordLaws.{join-in, count-in, name-in, bit-in, low-in, high-in}
 use Rattle.book.proofs.HeadLaws.{head-round, looks-head}
-use Rattle.book.proofs.SetLaws.{stored-at, round-names, member-names, member-union, member-mask}
+use Rattle.book.proofs.CellLaws.{rule-cell}
+use Rattle.book.proofs.Once.{same-place}
+use Rattle.book.proofs.Steps.{mask-below}
+use Rattle.book.proofs.TableLaws.{Once, mask-stays, limit-at, cell-at}
+use Rattle.book.proofs.SetLaws.{stored-length, stored-at, round-names, member-names, member-union, member-mask}
 
 module _ (S : Sheet) (formed : WellFormedSheet S) where
   module _ (r : ℕ) (here : r < length (S .rules)) where
@@ -35,9 +41,8 @@ module _ (S : Sheet) (formed : WellFormedSheet S) where
     round : roundIn (getD (headTable (S .rules)) r 0) ≡ length (roundOf (ruleAt (S .rules) r))
     round = rw (head-at (S .rules) r here few) (head-round (ruleAt (S .rules) r) rule-formed)
 
-    pub head : LooksHead (getD (headsKept (headTable (S .rules))) r 0) (ruleAt (S .rules) r)
-    unfolding headsKept
-    head = rw (stored-at (λ i. keptHead (getD (headTable (S .rules)) i 0)) 16 (replicate 16 0) r few (omega arith), head-at (S .rules) r here few) (looks-head (ruleAt (S .rules) r) rule-formed)
+    pub head : LooksHead (getD (headTable (S .rules)) r 0) (ruleAt (S .rules) r)
+    head = rw (head-at (S .rules) r here few) (looks-head (ruleAt (S .rules) r) rule-formed)
 
     module _ (f : ℕ) (inside : f < length (roundOf (ruleAt (S .rules) r))) where
       fragment-formed : WellFormedFragment (fragmentAt (ruleAt (S .rules) r) f)
@@ -74,7 +79,7 @@ module _ (S : Sheet) (formed : WellFormedSheet S) where
           → bitIn (getD (rangeTable (S .rules)) (8 * (16 * r + f) + i) 0) ≡ getD (fragmentNames (fragmentAt (ruleAt (S .rules) r) f)) i 0
       names-by-number i l = range-bit i l ∙ sym (List·getD-map (λ (x : Range). x .name) (fragmentAt (ruleAt (S .rules) r) f .ranges) i noRange)
 
-      pub fragment-names : (n : ℕ) → member (getD (nameTable (fragmentTable (S .rules)) (rangeTable (S .rules))) (16 * r + f) 0) n
+      fragment-names : (n : ℕ) → member (getD (nameTable (fragmentTable (S .rules)) (rangeTable (S .rules))) (16 * r + f) 0) n
           ≡ isIn n (fragmentNames (fragmentAt (ruleAt (S .rules) r) f))
       unfolding nameTable fragmentSet
       fragment-names n =
@@ -87,8 +92,8 @@ module _ (S : Sheet) (formed : WellFormedSheet S) where
           ∙ member-names rs (8 * (16 * r + f)) ns n (length ns) (omega arith) (λ i l. names-by-number i (subst (λ (k : ℕ). i < k) many l))
           ∙ ap (isIn n) (take-all (length ns) ns (omega arith))
 
-      pub fragment : LooksFragment (getD (fragmentTable (S .rules)) (16 * r + f) 0) (getD (nameTable (fragmentTable (S .rules)) (rangeTable (S .rules))) (16 * r + f) 0) (ruleAt (S .rules) r) f
-      fragment = record { join = rw word (join-in (fragmentAt (ruleAt (S .rules) r) f)); count = count; names′ = fragment-names }
+      pub fragment : LooksFragment (getD (fragmentTable (S .rules)) (16 * r + f) 0) (ruleAt (S .rules) r) f
+      fragment = record { join = rw word (join-in (fragmentAt (ruleAt (S .rules) r) f)); count = count }
 
     -- the set of a rule's names
     rule-names : (n : ℕ) → member (getD (ruleTable (headTable (S .rules)) (nameTable (fragmentTable (S .rules)) (rangeTable (S .rules)))) r 0) n ≡ isIn n (namesOf (ruleAt (S .rules) r))
@@ -103,22 +108,78 @@ module _ (S : Sheet) (formed : WellFormedSheet S) where
         ∙ ap (λ (l : List Fragment). isIn n (orderingNames l)) (take-all (length fs) fs (omega arith))
         ∙ ap (isIn n) (round-names (ruleAt (S .rules) r))
 
-  pub holders : (n r : ℕ) → n < 64
-      → member (getD (holderTable (ruleTable (headTable (S .rules)) (nameTable (fragmentTable (S .rules)) (rangeTable (S .rules)))) (length (S .rules))) n 0) r
-      ≡ (ltb r (length (S .rules)) && isIn n (namesOf (ruleAt (S .rules) r)))
-  unfolding holderTable
+    -- no name occurs twice in the rule
+    once : Once (headTable (S .rules)) (fragmentTable (S .rules)) (rangeTable (S .rules)) r
+    once m n i j hm hn hi hj e =
+        let rule : Rule = ruleAt (S .rules) r in
+        let km : m < length (roundOf (ruleAt (S .rules) r)) = subst (λ (k : ℕ). m < k) round hm in
+        let kn : n < length (roundOf (ruleAt (S .rules) r)) = subst (λ (k : ℕ). n < k) round hn in
+        let ki : i < length (fragmentAt (ruleAt (S .rules) r) m .ranges) = subst (λ (k : ℕ). i < k) (count m km) hi in
+        let kj : j < length (fragmentAt (ruleAt (S .rules) r) n .ranges) = subst (λ (k : ℕ). j < k) (count n kn) hj in
+        same-place (roundOf rule) (subst Distinct (sym (round-names rule)) (rule-formed .distinct)) m n i j km kn ki kj (sym (range-bit m km i ki) ∙ e ∙ range-bit n kn j kj)
+
+  -- ---- the table
+
+  abbrev sets : List ℕ
+  sets = ruleTable (headTable (S .rules)) (nameTable (fragmentTable (S .rules)) (rangeTable (S .rules)))
+
+  -- the masks, before the rules are stored
+  abbrev masks : List ℕ
+  masks = stored (λ m. maskOf sets m (cap 16 (length (S .rules)))) 64 (replicate 1104 0)
+
+  abbrev table : List ℕ
+  table = tableOf (headTable (S .rules)) (fragmentTable (S .rules)) (rangeTable (S .rules)) (length (S .rules))
+
+  size : length masks ≡ 1104
+  size = stored-length (λ m. maskOf sets m (cap 16 (length (S .rules)))) 64 (replicate 1104 0) ∙ length-replicate {A = ℕ} 1104 0
+
+  capped : cap 16 (length (S .rules)) ≤ 16
+  capped = cap-small 16 (length (S .rules))
+
+  all : cap 16 (length (S .rules)) ≡ length (S .rules)
+  all = cap-of 16 (length (S .rules)) (formed .count .1)
+
+  module _ (r : ℕ) (here : r < length (S .rules)) where
+    present : r < cap 16 (length (S .rules))
+    present = subst (λ (k : ℕ). r < k) (sym all) here
+
+    limit : limitIn (getD table (limitAt r) 0) ≡ timeOf (ruleAt (S .rules) r .kind)
+    unfolding tableOf
+    limit =
+        ap limitIn (limit-at (headTable (S .rules)) (fragmentTable (S .rules)) (rangeTable (S .rules)) (cap 16 (length (S .rules))) capped masks size r present)
+        ∙ omega arith ∙ head r here .time
+
+    cell : (n i : ℕ) → n < length (roundOf (ruleAt (S .rules) r)) → i < length (fragmentAt (ruleAt (S .rules) r) n .ranges)
+        → Cell (ruleAt (S .rules) r) n i (getD table (cellAt r (rangeAt (ruleAt (S .rules) r) n i .name)) 0)
+    unfolding tableOf
+    cell n i inside within =
+        let rule : Rule = ruleAt (S .rules) r in
+        subst (Cell rule n i)
+        (sym
+        (ap (λ (m : ℕ). getD table (cellAt r m) 0) (sym (range-bit r here n inside i within))
+        ∙ cell-at (headTable (S .rules)) (fragmentTable (S .rules)) (rangeTable (S .rules)) (cap 16 (length (S .rules))) capped masks size r present (once r here) n i
+        (subst (λ (k : ℕ). n < k) (sym (round r here)) inside) (subst (λ (k : ℕ). i < k) (sym (count r here n inside)) within)
+        ∙ rw (head-at (S .rules) r here (few r here), word r here n inside, range-word r here n inside i within)))
+        (rule-cell rule (rule-formed r here) n inside i within)
+
+  holders : (n r : ℕ) → n < 64 → member (maskIn (getD table n 0)) r ≡ (ltb r (length (S .rules)) && isIn n (namesOf (ruleAt (S .rules) r)))
+  unfolding tableOf
   holders n r l =
-      let sets : List ℕ = ruleTable (headTable (S .rules)) (nameTable (fragmentTable (S .rules)) (rangeTable (S .rules))) in
-      let all : cap 16 (length (S .rules)) ≡ length (S .rules) = rw (le-ltb 16 (length (S .rules)) (formed .count .1)) in
-      ap (λ (w : ℕ). member w r) (stored-at (λ m. maskOf sets m (cap 16 (length (S .rules)))) 64 (replicate 64 0) n l (omega arith))
+      let few : maskOf sets n (cap 16 (length (S .rules))) < 2 ^ 16 = mask-below sets n (cap 16 (length (S .rules))) capped in
+      ap (λ (w : ℕ). member (maskIn w) r)
+      (mask-stays (headTable (S .rules)) (fragmentTable (S .rules)) (rangeTable (S .rules)) (cap 16 (length (S .rules))) capped masks size n l
+      ∙ stored-at (λ m. maskOf sets m (cap 16 (length (S .rules)))) 64 (replicate 1104 0) n l (omega arith))
+      ∙ ap (λ (w : ℕ). member w r) (omega (arith, few))
       ∙ member-mask sets n (cap 16 (length (S .rules))) r
       ∙ ap (λ (k : ℕ). ltb r k && member (getD sets r 0) n) all
       ∙ go (ltb r (length (S .rules))) refl
     where
-      go : (b : Bool) → ltb r (length (S .rules)) ≡ b
-          → (b && member (getD (ruleTable (headTable (S .rules)) (nameTable (fragmentTable (S .rules)) (rangeTable (S .rules)))) r 0) n) ≡ (b && isIn n (namesOf (ruleAt (S .rules) r)))
+      go : (b : Bool) → ltb r (length (S .rules)) ≡ b → (b && member (getD sets r 0) n) ≡ (b && isIn n (namesOf (ruleAt (S .rules) r)))
       go true e = rule-names r (ltb-true r (length (S .rules)) e) n
       go false e = refl
+
+  holds-rules : HoldsRules table (S .rules)
+  holds-rules = record { rule = λ r here. record { limit = limit r here; cell = cell r here }; holders = holders }
 
   -- the book of a well-formed sheet is the sheet, looked up
   pub looks : Looks S (bookOf S)
@@ -129,5 +190,5 @@ module _ (S : Sheet) (formed : WellFormedSheet S) where
     head = head;
     fragment = λ r f h i. fragment r h f i;
     range = λ r f s h i w. range r h f i s w;
-    holders = holders;
+    table = holds-rules;
   }

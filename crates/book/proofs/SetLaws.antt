@@ -20,7 +20,7 @@ use Rattle.book.specs.Tables.{stored, namesFrom, unionFrom, maskOf}
 
 -- ---- a table stored entry by entry
 
-stored-length : (f : ℕ → ℕ) (n : ℕ) (t : List ℕ) → length (stored f n t) ≡ length t
+pub stored-length : (f : ℕ → ℕ) (n : ℕ) (t : List ℕ) → length (stored f n t) ≡ length t
 stored-length f zero t = refl
 stored-length f (suc n) t = length-set (stored f n t) n (f n) ∙ stored-length f n t
 

@@ -1,9 +1,9 @@
--- One turn of each loop that makes a table: what is made of i of them, and one more, is what is made of i + 1.
+-- One turn of each loop that makes a table: what is made of i of them, and one more, is what is made of i + 1; and when there are no more, all is made.
 -- Assumes nothing.
-use mathlib.Core.Path.{_≡_, _∙_}
+use mathlib.Core.Path.{_≡_, ap, _∙_}
 use mathlib.Core.Bool.{Bool, true, false, cond}
 use mathlib.Core.List.{List}
-use Prim.Native.Nat.{ℕ, zero, suc, _+_, _<_, _≤_, _^_}
+use Prim.Native.Nat.{ℕ, zero, suc, _+_, _*_, _<_, _≤_, _^_}
 use native.Mathlib.Nat.{mod-lt, zero-lt-suc}
 use native.Mathlib.Numerals.{add-one}
 use native.Mathlib.Omega.{arith}
@@ -13,7 +13,18 @@ use Rattle.names.specs.Names.{member, insert, withName}
 use Rattle.names.proofs.Sets.{insert-below}
 use Rattle.layout.proofs.Values.{with-name}
 use Rattle.tables.specs.Words.{bitIn}
-use Rattle.book.specs.Tables.{stored, namesFrom, unionFrom, maskOf}
+use Rattle.book.specs.Tables.{stored, inTurn, namesFrom, unionFrom, maskOf, cellWith, putCell}
+
+-- a loop that has passed n has made what n make
+pub all-made : {A : Type 0} (f : ℕ → A) {i n : ℕ} {x : A} → i ≤ n → n ≤ i → x ≡ f i → x ≡ f n
+all-made f {i} {n} l h e = let q : i ≡ n = omega arith in e ∙ ap f q
+
+pub turn-more : (put : List ℕ → ℕ → List ℕ) (t : List ℕ) (i : ℕ) {table table′ : List ℕ} → table ≡ inTurn put i t → table′ ≡ put table i → table′ ≡ inTurn put (i + 1) t
+turn-more put t i e e′ = e′ ∙ rw (add-one, e)
+
+pub cell-more : (ranges : List ℕ) (r k shared : ℕ) (t : List ℕ) (i : ℕ) {table : List ℕ} {bit cell : ℕ} → table ≡ inTurn (putCell ranges r k shared) i t
+    → bit ≡ bitIn (getD ranges (8 * k + i) 0) → cell ≡ cellWith shared (getD ranges (8 * k + i) 0) i → set table (80 + 64 * r + bit) cell ≡ inTurn (putCell ranges r k shared) (i + 1) t
+cell-more ranges r k shared t i e eb ec = turn-more (putCell ranges r k shared) t i e (rw (eb, ec))
 
 pub stored-more : (f : ℕ → ℕ) (t : List ℕ) (i : ℕ) {table : List ℕ} {x : ℕ} → table ≡ stored f i t → x ≡ f i → set table i x ≡ stored f (i + 1) t
 stored-more f t i e ex = rw (add-one, e, ex)
@@ -32,7 +43,7 @@ mask-more sets m i e ex = rw (add-one, ← e) ex
 
 -- ---- bounds
 
-either : (b : Bool) {k x y : ℕ} → x < k → y < k → cond b x y < k
+pub either : (b : Bool) {k x y : ℕ} → x < k → y < k → cond b x y < k
 either true p q = p
 either false p q = q
 

@@ -7,21 +7,20 @@ use Rattle.layout.specs.Layout.{Sheet, version}
 use Rattle.layout.specs.Reading.{accepted, readSheet}
 use Rattle.sheet.specs.Answers.{answerOf, pagesOf}
 use Rattle.sheet.specs.declared.Pages.{Pages}
-use Rattle.book.specs.Tables.{headsKept, nameTable, ruleTable, holderTable}
+use Rattle.book.specs.Tables.{tableOf}
 use Rattle.book.specs.declared.Book.{Book}
 use Rattle.book.specs.declared.Translation.{Translation}
 
--- the book of some pages, with the tables made of them
+-- the book of some pages, with the table made of them
 abbrev pub bookFrom : Pages → Book
 bookFrom p = record {
   version = version;
   outputs = p .outputs;
   count = p .count;
-  heads = headsKept (p .heads);
+  heads = p .heads;
   fragments = p .fragments;
-  names = nameTable (p .fragments) (p .ranges);
   ranges = p .ranges;
-  holders = holderTable (ruleTable (p .heads) (nameTable (p .fragments) (p .ranges))) (p .count);
+  table = tableOf (p .heads) (p .fragments) (p .ranges) (p .count);
 }
 
 -- the book of a sheet

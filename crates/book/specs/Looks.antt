@@ -2,32 +2,28 @@
 -- trigger's fragment too), range s one of that fragment's.
 -- Assumes nothing.
 use mathlib.Core.Path.{_≡_}
-use mathlib.Core.Bool.{_&&_}
 use Prim.Native.Nat.{ℕ, _+_, _*_, _<_}
-use lib.Dec.{ltb}
 use lib.ListN.{length, getD}
-use Rattle.pattern.specs.Lists.{isIn}
-use Rattle.pattern.specs.Meaning.{fragmentNames, Rule, namesOf}
+use Rattle.pattern.specs.Meaning.{Rule}
 use Rattle.pattern.specs.Model.{roundOf, fragmentAt}
-use Rattle.names.specs.Names.{member}
-use Rattle.layout.specs.Layout.{Sheet, joinNumber, kindNumber, triggerOf, timeOf, version}
+use Rattle.layout.specs.Layout.{Sheet, joinNumber, kindNumber, inQ, triggerOf, timeOf, version}
 use Rattle.layout.specs.Pages.{ruleAt, rangeAt}
-use Rattle.tables.specs.Words.{kindIn, countPIn, triggerIn, timeIn, lastIn, joinIn, countIn, nameIn, lowIn, highIn}
+use Rattle.tables.specs.Words.{kindIn, countPIn, countQIn, triggerIn, timeIn, joinIn, countIn, nameIn, lowIn, highIn}
+use Rattle.tables.specs.Cells.{HoldsRules}
 use Rattle.book.specs.declared.Book.{Book}
 
 -- a rule's head
 pub record LooksHead (head : ℕ) (r : Rule) : Type 0 where
   pub kind : kindIn head ≡ kindNumber (r .kind)
   pub countP : countPIn head ≡ length (r .p)
+  pub countQ : countQIn head ≡ length (inQ (r .kind))
   pub trigger : triggerIn head ≡ triggerOf (r .kind)
   pub time : timeIn head ≡ timeOf (r .kind)
-  pub last : lastIn head ≡ length (roundOf r)
 
--- fragment f of rule r: its word and its names
-pub record LooksFragment (word names : ℕ) (r : Rule) (f : ℕ) : Type 0 where
+-- fragment f of rule r
+pub record LooksFragment (word : ℕ) (r : Rule) (f : ℕ) : Type 0 where
   pub join : joinIn word ≡ joinNumber (fragmentAt r f .join)
   pub count : countIn word ≡ length (fragmentAt r f .ranges)
-  pub names′ : (n : ℕ) → member names n ≡ isIn n (fragmentNames (fragmentAt r f))
 
 -- that fragment's range s
 pub record LooksRange (word : ℕ) (r : Rule) (f s : ℕ) : Type 0 where
@@ -41,8 +37,8 @@ pub record Looks (S : Sheet) (b : Book) : Type 0 where
   pub count : b .count ≡ length (S .rules)
   pub head : (r : ℕ) → r < length (S .rules) → LooksHead (getD (b .heads) r 0) (ruleAt (S .rules) r)
   pub fragment : (r f : ℕ) → r < length (S .rules) → f < length (roundOf (ruleAt (S .rules) r))
-      → LooksFragment (getD (b .fragments) (16 * r + f) 0) (getD (b .names) (16 * r + f) 0) (ruleAt (S .rules) r) f
+      → LooksFragment (getD (b .fragments) (16 * r + f) 0) (ruleAt (S .rules) r) f
   pub range : (r f s : ℕ) → r < length (S .rules) → f < length (roundOf (ruleAt (S .rules) r)) → s < length (fragmentAt (ruleAt (S .rules) r) f .ranges)
       → LooksRange (getD (b .ranges) (8 * (16 * r + f) + s) 0) (ruleAt (S .rules) r) f s
-  -- bit r of a name's mask: rule r is there, and holds the name
-  pub holders : (n r : ℕ) → n < 64 → member (getD (b .holders) n 0) r ≡ (ltb r (length (S .rules)) && isIn n (namesOf (ruleAt (S .rules) r)))
+  -- the masks, times and cells of its rules
+  pub table : HoldsRules (b .table) (S .rules)

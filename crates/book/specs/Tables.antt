@@ -1,27 +1,26 @@
--- The tables that are made of a sheet's pages, for a monitor's few look-ups: the set of names of each fragment, the rules that hold each name, and where a rule's name has its range.
--- They are defined for all pages, those of a sheet or not.
+-- The table that is made of a sheet's pages, for a monitor's few look-ups: the rules that hold each name, each rule's t, and what each rule says of each of its names; and on the way to
+-- it the sets of names of each fragment and each rule. They are defined for all pages, those of a sheet or not.
 -- Assumes nothing.
-use mathlib.Core.Bool.{cond}
+use mathlib.Core.Bool.{Bool, cond}
 use mathlib.Core.List.{List}
-use Prim.Native.Nat.{ℕ, zero, suc, _+_, _*_, _/_, _%_}
+use Prim.Native.Nat.{ℕ, zero, suc, _+_, _-_, _*_, _%_}
 use lib.Bits.{bitOr}
+use lib.Dec.{eqb, leb}
 use lib.ListN.{getD, set, replicate}
 use Rattle.names.specs.Names.{member, insert}
-use Rattle.tables.specs.Words.{cap, roundIn, countIn, bitIn}
+use Rattle.layout.specs.Reading.{byKind}
+use Rattle.tables.specs.Words.{cap, kindIn, countPIn, timeIn, roundIn, joinIn, countIn, bitIn, lowIn, highIn}
+use Rattle.tables.specs.Cells.{cellOf, limitAt, cellAt}
 
 -- f of each number below n, stored at it
 abbrev pub stored : (ℕ → ℕ) → ℕ → List ℕ → List ℕ
 stored f zero table = table
 stored f (suc n) table = set (stored f n table) n (f n)
 
--- ---- the heads that a book keeps
-
--- a rule's eight bytes, with the number of fragments in its round in the place of Q's count: a monitor asks for it at each event, and Q's count is what is left of it after P's
-unfoldable pub keptHead : ℕ → ℕ
-keptHead head = head % 65536 + 65536 * roundIn head + 16777216 * (head / 16777216)
-
-unfoldable pub headsKept : List ℕ → List ℕ
-headsKept heads = stored (λ r. keptHead (getD heads r 0)) 16 (replicate 16 0)
+-- a table, after something was put into it for each number below n
+abbrev pub inTurn : (List ℕ → ℕ → List ℕ) → ℕ → List ℕ → List ℕ
+inTurn put zero table = table
+inTurn put (suc n) table = put (inTurn put n table) n
 
 -- ---- the names of a fragment
 
@@ -58,5 +57,58 @@ abbrev pub maskOf : List ℕ → ℕ → ℕ → ℕ
 maskOf sets m zero = 0
 maskOf sets m (suc n) = cond (member (getD sets n 0) m) (insert (maskOf sets m n) n) (maskOf sets m n)
 
-unfoldable pub holderTable : List ℕ → ℕ → List ℕ
-holderTable sets count = stored (λ m. maskOf sets m (cap 16 count)) 64 (replicate 64 0)
+-- ---- the cells of a rule, from its head and its fragments' and ranges' words
+
+-- after P, by the kind; and in P, where only before a deadline the last differs
+abbrev pub roleAfterP : ℕ → Bool → ℕ
+roleAfterP kind last = cond (eqb kind 0) 5 (cond (eqb kind 1) 4 (cond last 3 2))
+
+abbrev pub roleWithinP : ℕ → Bool → ℕ
+roleWithinP kind last = byKind kind (cond last 1 0) 0
+
+-- of fragment n of the round
+unfoldable pub roleFrom : ℕ → ℕ → ℕ
+roleFrom head n = cond (leb (countPIn head) n) (roleAfterP (kindIn head) (leb (roundIn head) (suc n))) (roleWithinP (kindIn head) (leb (countPIn head) (suc n)))
+
+-- the fragment that it follows
+unfoldable pub beforeFrom : ℕ → ℕ → ℕ
+beforeFrom head n = cond (eqb n 0) (roundIn head - 1) (n - 1)
+
+-- one less than the count of its ranges, modulo 8
+abbrev pub lessFrom : ℕ → ℕ
+lessFrom word = (countIn word + 7) % 8
+
+-- what the cells of its ranges share
+unfoldable pub sharedCell : ℕ → ℕ → ℕ → ℕ
+sharedCell head word n = cellOf n 0 (roleFrom head n) (beforeFrom head n) (joinIn word % 2) (lessFrom word) 0 0
+
+-- with range i's own
+unfoldable pub cellWith : ℕ → ℕ → ℕ → ℕ
+cellWith shared word i = shared + 16 * i + 4294967296 * lowIn word + 281474976710656 * highIn word
+
+-- ---- the cells, stored
+
+module _ (ranges : List ℕ) (r k shared : ℕ) where
+  -- of range i of fragment k, one of rule r's
+  abbrev pub putCell : List ℕ → ℕ → List ℕ
+  putCell table i = set table (cellAt r (bitIn (getD ranges (8 * k + i) 0))) (cellWith shared (getD ranges (8 * k + i) 0) i)
+
+module _ (fragments ranges : List ℕ) (head r : ℕ) where
+  -- of fragment n of rule r
+  unfoldable pub putFragment : List ℕ → ℕ → List ℕ
+  putFragment table n =
+      let word : ℕ = getD fragments (16 * r + n) 0 in
+      inTurn (putCell ranges r (16 * r + n) (sharedCell head word n)) (countIn word) table
+
+module _ (heads fragments ranges : List ℕ) where
+  -- of rule r, and its t
+  unfoldable pub putRule : List ℕ → ℕ → List ℕ
+  putRule table r =
+      let head : ℕ = getD heads r 0 in
+      inTurn (putFragment fragments ranges head r) (roundIn head) (set table (limitAt r) (timeIn head))
+
+  -- the whole table, of so many rules
+  unfoldable pub tableOf : ℕ → List ℕ
+  tableOf count =
+      let sets : List ℕ = ruleTable heads (nameTable fragments ranges) in
+      inTurn putRule (cap 16 count) (stored (λ m. maskOf sets m (cap 16 count)) 64 (replicate 1104 0))

@@ -1,32 +1,11 @@
-// The book of a sheet (document 01: "a translated sheet is a book"): all that the sheet says, in file order, and the tables that a monitor looks up at each event.
+// The book of a sheet (document 01: "a translated sheet is a book"): all that the sheet says, in file order, and the table that a monitor looks up at each event.
 ghost use mathlib.Core.Path.{_≡_};
 ghost use mathlib.Core.Bool.{cond};
-ghost use Prim.Native.Nat.{_+_, _*_, _<_, _≤_};
+ghost use Prim.Native.Nat.{ℕ, _<_, _≤_};
 ghost use Rattle.names.specs.Names.{member, insert};
-ghost use Rattle.tables.specs.Words.{cap};
-ghost use Rattle.book.specs.Tables.{keptHead, headsKept, fragmentSet, nameTable, ruleSet, ruleTable, maskOf, holderTable};
+ghost use Rattle.tables.specs.Words.{cap, roundIn};
+ghost use Rattle.book.specs.Tables.{stored, inTurn, fragmentSet, nameTable, ruleSet, ruleTable, maskOf, roleAfterP, roleWithinP, roleFrom, beforeFrom, sharedCell, cellWith, putCell, putFragment, putRule, tableOf};
 ghost use Rattle.book.specs.Books.{Translates, bookFrom};
-
-// ---- the heads that a book keeps
-
-// A rule's eight bytes, with the number of fragments in its round in the place of Q's count.
-fn kept_head(head: u64) -> u64
-    ensures { λ r. ⌜ r ≡ keptHead head ⌝ }
-{
-    head % 65536 + 65536 * (tables::fragments_in_round(head) as u64) + 16777216 * (head / 16777216)
-}
-
-fn heads_kept(heads: &[u64; 16]) -> [u64; 16]
-    ensures { λ r. ⌜ r ≡ headsKept (now (heads .entry)) ⌝ }
-{
-    let mut kept = [0u64; 16];
-    let mut r = 0usize;
-    while r < 16 {
-        kept[r] = kept_head(heads[r]);
-        r = r + 1;
-    }
-    kept
-}
 
 // ---- the names of each fragment
 
@@ -110,7 +89,7 @@ fn add_rule(mask: u64, set: u64, m: u8, r: usize) -> u64
 }
 
 // The mask of the rules that hold name m.
-fn mask_of(sets: &[u64; 16], m: u8, count: usize) -> u16
+fn mask_of(sets: &[u64; 16], m: u8, count: usize) -> u64
     requires { ⌜ count ≤ 16 ⌝ }
     ensures { λ x. ⌜ x ≡ maskOf (now (sets .entry)) m count ⌝ }
 {
@@ -120,20 +99,164 @@ fn mask_of(sets: &[u64; 16], m: u8, count: usize) -> u16
         mask = add_rule(mask, sets[r], m, r);
         r = r + 1;
     }
-    mask as u16
+    mask
 }
 
-fn holder_table(sets: &[u64; 16], count: u8) -> [u16; 64]
-    ensures { λ x. ⌜ x ≡ holderTable (now (sets .entry)) count ⌝ }
+// Stores each name's mask.
+fn put_masks(table: &mut [u64; 1104], sets: &[u64; 16], count: usize)
+    requires { ⌜ count ≤ 16 ⌝ }
+    ensures { λ x. ⌜ now (table .exit) ≡ stored (λ (m : ℕ). maskOf (now (sets .entry)) m count) 64 (now (table .entry)) ⌝ }
 {
-    let n = few(count);
-    let mut masks = [0u16; 64];
     let mut m = 0usize;
     while m < 64 {
-        masks[m] = mask_of(sets, m as u8, n);
+        table[m] = mask_of(sets, m as u8, count);
         m = m + 1;
     }
-    masks
+}
+
+// ---- the cells of each rule
+
+// The role of a fragment after P.
+fn role_after(kind: u8, last: bool) -> u64
+    ensures { λ r. ⌜ r ≡ roleAfterP kind last ⌝ }
+{
+    if kind == 0 {
+        return 5;
+    }
+    if kind == 1 {
+        return 4;
+    }
+    if last {
+        return 3;
+    }
+    2
+}
+
+// The role of a fragment of P: only before a deadline does the last differ.
+fn role_within(kind: u8, last: bool) -> u64
+    ensures { λ r. ⌜ r ≡ roleWithinP kind last ⌝ }
+{
+    if kind != 2 {
+        return 0;
+    }
+    if last {
+        return 1;
+    }
+    0
+}
+
+// The role of fragment f of the rule's round.
+fn role_of(head: u64, f: usize) -> u64
+    requires { ⌜ f < 16 ⌝ }
+    ensures { λ r. ⌜ r ≡ roleFrom head f ⌝ }
+{
+    let kind = tables::kind(head);
+    let p = tables::fragments_in_p(head) as usize;
+    let all = tables::fragments_in_round(head) as usize;
+    if p <= f {
+        return role_after(kind, all <= f + 1);
+    }
+    role_within(kind, p <= f + 1)
+}
+
+// The fragment that fragment f follows: the first follows the last.
+fn preceding(head: u64, f: usize) -> usize
+    requires { ⌜ f < roundIn head ⌝ }
+    ensures { λ r. ⌜ r ≡ beforeFrom head f ⌝ }
+{
+    let all = tables::fragments_in_round(head) as usize;
+    if f == 0 {
+        return all - 1;
+    }
+    f - 1
+}
+
+// What the cells of fragment f's ranges share. One less than a count of 1 to 8 is that of 7 more, modulo 8, and so nothing is asked of the count.
+fn shared(head: u64, word: u16, f: usize) -> u64
+    requires { ⌜ f < roundIn head ⌝ }
+    ensures { λ r. ⌜ r ≡ sharedCell head word f ⌝ }
+{
+    let role = role_of(head, f);
+    let previous = preceding(head, f) as u64;
+    let any = (tables::join(word) % 2) as u64;
+    let less = ((tables::ranges_in(word) + 7) % 8) as u64;
+    (f as u64) + 128 * role + 1024 * previous + 16384 * any + 32768 * less
+}
+
+// With range i's own: its number, u and v.
+fn cell_of(shared: u64, word: u64, i: usize) -> u64
+    requires { ⌜ (shared < 262144) × (i < 8) ⌝ }
+    ensures { λ r. ⌜ r ≡ cellWith shared word i ⌝ }
+{
+    let low = tables::low(word) as u64;
+    let high = tables::high(word) as u64;
+    shared + 16 * (i as u64) + 4294967296 * low + 281474976710656 * high
+}
+
+// Stores the cells of fragment k of the pages, one of rule r's.
+fn put_ranges(
+    table: &mut [u64; 1104],
+    ranges: &[u64; 2048],
+    r: usize,
+    k: usize,
+    shared: u64,
+    count: usize,
+)
+    requires { ⌜ (r < 16) × (k < 256) × (shared < 262144) × (count ≤ 8) ⌝ }
+    ensures { λ x. ⌜ now (table .exit) ≡ inTurn (putCell (now (ranges .entry)) r k shared) count (now (table .entry)) ⌝ }
+{
+    let first = 80 + 64 * r;
+    let base = 8 * k;
+    let mut i = 0usize;
+    while i < count {
+        let word = ranges[base + i];
+        let at = first + (tables::bit(word) as usize);
+        table[at] = cell_of(shared, word, i);
+        i = i + 1;
+    }
+}
+
+// Stores the cells of rule r.
+fn put_fragments<'a>(
+    table: &mut [u64; 1104],
+    fragments: &'a [u16; 256],
+    ranges: &'a [u64; 2048],
+    head: u64,
+    r: usize,
+)
+    requires { ⌜ r < 16 ⌝ }
+    ensures { λ x. ⌜ now (table .exit) ≡ inTurn (putFragment (now (fragments .entry)) (now (ranges .entry)) head r) (roundIn head) (now (table .entry)) ⌝ }
+{
+    let all = tables::fragments_in_round(head) as usize;
+    let base = 16 * r;
+    let mut f = 0usize;
+    while f < all {
+        let k = base + f;
+        let word = fragments[k];
+        let count = tables::ranges_in(word) as usize;
+        put_ranges(table, ranges, r, k, shared(head, word, f), count);
+        f = f + 1;
+    }
+}
+
+// Stores each rule's t and cells.
+fn put_rules<'a>(
+    table: &mut [u64; 1104],
+    heads: &'a [u64; 16],
+    fragments: &'a [u16; 256],
+    ranges: &'a [u64; 2048],
+    count: usize,
+)
+    requires { ⌜ count ≤ 16 ⌝ }
+    ensures { λ x. ⌜ now (table .exit) ≡ inTurn (putRule (now (heads .entry)) (now (fragments .entry)) (now (ranges .entry))) count (now (table .entry)) ⌝ }
+{
+    let mut r = 0usize;
+    while r < count {
+        let head = heads[r];
+        table[64 + r] = tables::time(head) as u64;
+        put_fragments(table, fragments, ranges, head, r);
+        r = r + 1;
+    }
 }
 
 // ---- the book
@@ -143,20 +266,37 @@ pub struct Book {
     pub version: u16,
     pub outputs: u64,
     pub count: u8,
-    // rule r's eight bytes at r, with the number of fragments in its round in the place of Q's count
+    // rule r's eight bytes at r
     pub heads: [u64; 16],
-    // fragment f of rule r's round at 16 r + f: join and count of ranges; the set of its names
+    // fragment f of rule r's round at 16 r + f: join and count of ranges
     pub fragments: [u16; 256],
-    pub names: [u64; 256],
     // that fragment's range s at 8 (16 r + f) + s: name, u and v
     pub ranges: [u64; 2048],
-    // at name n, the mask of the rules that hold it
-    pub holders: [u16; 64],
+    // at name n, the mask of the rules that hold it; at 64 + r, rule r's t; at 80 + 64 r + n, what rule r says of name n
+    pub table: [u64; 1104],
 }
 
 pub struct Translation {
     pub answer: sheet::Answer,
     pub book: Book,
+}
+
+// The table of a sheet's pages.
+fn table_of<'a>(
+    heads: &'a [u64; 16],
+    fragments: &'a [u16; 256],
+    ranges: &'a [u64; 2048],
+    count: u8,
+) -> [u64; 1104]
+    ensures { λ x. ⌜ x ≡ tableOf (now (heads .entry)) (now (fragments .entry)) (now (ranges .entry)) count ⌝ }
+{
+    let n = few(count);
+    let names = name_table(fragments, ranges);
+    let sets = rule_table(heads, &names);
+    let mut table = [0u64; 1104];
+    put_masks(&mut table, &sets, n);
+    put_rules(&mut table, heads, fragments, ranges, n);
+    table
 }
 
 // The book of a sheet's pages.
@@ -166,19 +306,15 @@ fn book_of(pages: sheet::Pages) -> Book
     let heads = pages.heads;
     let fragments = pages.fragments;
     let ranges = pages.ranges;
-    let names = name_table(&fragments, &ranges);
-    let sets = rule_table(&heads, &names);
-    let holders = holder_table(&sets, pages.count);
-    let kept = heads_kept(&heads);
+    let table = table_of(&heads, &fragments, &ranges, pages.count);
     Book {
         version: 1,
         outputs: pages.outputs,
         count: pages.count,
-        heads: kept,
+        heads: heads,
         fragments: fragments,
-        names: names,
         ranges: ranges,
-        holders: holders,
+        table: table,
     }
 }
 

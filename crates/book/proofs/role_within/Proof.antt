@@ -1,0 +1,16 @@
+-- `book::role_within` meets its contract, by the kind. Assumes nothing.
+use borrow.Author.Tests.{eq-eqb, ne-eqb}
+use Rattle.book.proofs.role_within.Statement.{statement}
+use Rattle.book.proofs.role_within.Tie as tie
+
+returns : tie.Need-returns
+returns c = simp (ne-eqb _ _ (c .if1 .taken))
+
+returns-2 : tie.Need-returns-2
+returns-2 c = simp (eq-eqb _ _ (c .before .if1 .left), c .if2 .taken)
+
+returns-3 : tie.Need-returns-3
+returns-3 c = simp (eq-eqb _ _ (c .before .if1 .left), c .if2 .left)
+
+pub role-within-spec : {M : Type 1} → statement M
+role-within-spec = tie.close (tie.spec returns returns-2 returns-3)
