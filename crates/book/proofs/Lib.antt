@@ -3,7 +3,6 @@ pub mod HeadLaws
 pub mod CellBounds
 pub mod CellLaws
 pub mod Turns
-pub mod Once
 pub mod TableLaws
 pub mod SetLaws
 pub mod Lookups

@@ -25,10 +25,10 @@ use Rattle.tables.proofs.Bounds.{cap-of, cap-small}
 use Rattle.tables.proofs.WordLaws.{join-in, count-in, name-in, bit-in, low-in, high-in}
 use Rattle.book.proofs.HeadLaws.{head-round, looks-head}
 use Rattle.book.proofs.CellLaws.{rule-cell}
-use Rattle.book.proofs.Once.{same-place}
+use Rattle.layout.proofs.Once.{same-place, round-names}
 use Rattle.book.proofs.Steps.{mask-below}
 use Rattle.book.proofs.TableLaws.{Once, mask-stays, limit-at, cell-at}
-use Rattle.book.proofs.SetLaws.{stored-length, stored-at, round-names, member-names, member-union, member-mask}
+use Rattle.book.proofs.SetLaws.{stored-length, stored-at, member-names, member-union, member-mask}
 
 module _ (S : Sheet) (formed : WellFormedSheet S) where
   module _ (r : ℕ) (here : r < length (S .rules)) where

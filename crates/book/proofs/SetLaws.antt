@@ -2,7 +2,7 @@
 -- Assumes nothing.
 use mathlib.Core.Path.{_≡_, refl, ap, ap₂, sym, subst, _∙_}
 use mathlib.Core.Bool.{Bool, true, false, cond, _||_, _&&_, or-assoc, or-false, or-true}
-use mathlib.Core.List.{List, [], _∷_, _++_, append-assoc, append-nil}
+use mathlib.Core.List.{List, [], _∷_, _++_, append-nil}
 use Prim.Native.Nat.{ℕ, zero, suc, _+_, _≤_, _<_}
 use native.Mathlib.Omega.{arith}
 use lib.Dec.{ltb, eqb}
@@ -10,8 +10,8 @@ use lib.ListN.{length, getD, set, take, length-set}
 use lib.Seq.{take-suc, getD-set-same, getD-set-other}
 use borrow.Author.Tests.{eqb-true, eqb-false, ltb-true, ltb-false, lt-ltb, le-ltb}
 use Rattle.pattern.specs.Lists.{isIn}
-use Rattle.pattern.specs.Meaning.{Fragment, fragmentNames, orderingNames, Kind, once, repeated, timed, Rule, kindNames, namesOf}
-use Rattle.pattern.specs.Model.{lastFragments, roundOf, noFragment}
+use Rattle.pattern.specs.Meaning.{Fragment, fragmentNames, orderingNames}
+use Rattle.pattern.specs.Model.{noFragment}
 use Rattle.names.specs.Names.{member, insert}
 use Rattle.names.proofs.Digits.{member-or}
 use Rattle.names.proofs.Sets.{member-empty, member-insert}
@@ -40,19 +40,6 @@ stored-at f (suc n) t i l h = go (eqb i n) refl (λ l′. stored-at f n t i l′
 in-append : (m : ℕ) (a b : List ℕ) → isIn m (a ++ b) ≡ (isIn m a || isIn m b)
 in-append m [] b = refl
 in-append m (n ∷ a) b = ap (λ (x : Bool). eqb m n || x) (in-append m a b) ∙ sym (or-assoc (eqb m n) (isIn m a) (isIn m b))
-
-ordering-append : (a b : List Fragment) → orderingNames (a ++ b) ≡ orderingNames a ++ orderingNames b
-ordering-append [] b = refl
-ordering-append (f ∷ a) b = ap (fragmentNames f ++_) (ordering-append a b) ∙ sym (append-assoc (fragmentNames f) (orderingNames a) (orderingNames b))
-
-last-names : (K : Kind) → orderingNames (lastFragments K) ≡ kindNames K
-last-names (once i) = refl
-last-names (repeated i) = refl
-last-names (timed q t) = refl
-
--- the names of a rule's round are the rule's
-pub round-names : (r : Rule) → orderingNames (roundOf r) ≡ namesOf r
-round-names r = ordering-append (r .p) (lastFragments (r .kind)) ∙ ap (orderingNames (r .p) ++_) (last-names (r .kind))
 
 -- ---- sets
 

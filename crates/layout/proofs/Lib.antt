@@ -8,3 +8,4 @@ pub mod FirstFault
 pub mod Length
 pub mod Accepted
 pub mod PageLaws
+pub mod Once

@@ -1,13 +1,13 @@
 -- The ranges of a fragment and their states by their places: what a move does at each place, and which slot stands there.
 -- Assumes nothing.
-use mathlib.Core.Path.{_≡_, refl, sym, _∙_, ap, ap₂, subst}
-use mathlib.Core.Logic.{_⊎_, inl, inr}
+use mathlib.Core.Path.{_≡_, refl, ap}
+use mathlib.Core.Logic.{inl, inr}
 use mathlib.Core.List.{List, [], _∷_, map}
 use Prim.Native.Nat.{ℕ, zero, suc, _≤_, _<_}
 use native.Mathlib.Nat.{not-suc-le-zero}
 use native.Mathlib.Omega.{arith}
 use lib.ListN.{length, getD}
-use Rattle.pattern.specs.Lists.{In, Distinct}
+use Rattle.pattern.specs.Lists.{In}
 use Rattle.pattern.specs.Meaning.{Range, Join}
 use Rattle.pattern.specs.Recogniser.{State, idle, unbegun, Class, move, Slot, slots, moves, notBegun}
 use Rattle.pattern.proofs.Running.{slot}
@@ -75,26 +75,9 @@ pub placed : (rs : List Range) (ss : List State) (x : Slot) → In x (slots rs s
 placed (r ∷ rs) (s ∷ ss) x (inl e) = record { place = 0; inside = omega arith; is = e }
 placed (r ∷ rs) (s ∷ ss) x (inr i) = let p = placed rs ss x i in record { place = suc (p .place); inside = let h : p .place < length rs = p .inside in omega arith; is = p .is }
 
--- ---- names
+-- ---- ranges
 
 pub range-in : (rs : List Range) (k : ℕ) → k < length rs → In (getD rs k noRange) rs
 range-in [] k i = absurd (not-suc-le-zero i)
 range-in (r ∷ rs) zero i = inl refl
 range-in (r ∷ rs) (suc k) i = inr (range-in rs k (omega arith))
-
-pub name-in : (rs : List Range) (k : ℕ) → k < length rs → In (getD rs k noRange .name) (map (λ (r : Range). r .name) rs)
-name-in [] k i = absurd (not-suc-le-zero i)
-name-in (r ∷ rs) zero i = inl refl
-name-in (r ∷ rs) (suc k) i = inr (name-in rs k (omega arith))
-
-pub name-place : (rs : List Range) (m : ℕ) → In m (map (λ (r : Range). r .name) rs) → (k : ℕ) × (k < length rs) × (m ≡ getD rs k noRange .name)
-name-place (r ∷ rs) m (inl e) = (0, omega arith, e)
-name-place (r ∷ rs) m (inr i) = let (k, h, e) = name-place rs m i in (suc k, (let g : k < length rs = h in omega arith), e)
-
--- ranges with one name are at one place
-pub one-place : (rs : List Range) → Distinct (map (λ (r : Range). r .name) rs) → (k i : ℕ) → k < length rs → i < length rs → getD rs k noRange .name ≡ getD rs i noRange .name → k ≡ i
-one-place [] d k i hk hi e = absurd (not-suc-le-zero hk)
-one-place (r ∷ rs) d zero zero hk hi e = refl
-one-place (r ∷ rs) d zero (suc i) hk hi e = absurd (d .0 (subst (λ (m : ℕ). In m (map (λ (x : Range). x .name) rs)) (sym e) (name-in rs i (omega arith))))
-one-place (r ∷ rs) d (suc k) zero hk hi e = absurd (d .0 (subst (λ (m : ℕ). In m (map (λ (x : Range). x .name) rs)) e (name-in rs k (omega arith))))
-one-place (r ∷ rs) d (suc k) (suc i) hk hi e = ap suc (one-place rs (d .1) k i (omega arith) (omega arith) e)

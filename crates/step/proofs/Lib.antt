@@ -4,3 +4,4 @@ mod Ranges
 pub mod Roles
 pub mod Status
 pub mod Links
+pub mod Sound

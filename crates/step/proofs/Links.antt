@@ -34,7 +34,8 @@ use Rattle.step.specs.declared.RuleState.{RuleState}
 use Rattle.step.specs.declared.Stepped.{Stepped}
 use Rattle.step.specs.Steps.{brokenOf, standingOf, stoodOf, beginOf, movedBy, longerOf, otherOf, passOf, cellIn, actOf}
 use Rattle.step.specs.Shows.{At, Sound, Counting, Shows, untouched, freed, begun}
-use Rattle.step.proofs.Indices.{moves-length, moves-at, moves-past, fresh-length, fresh-at, fresh-past, slot-at, range-in, name-in, one-place}
+use Rattle.step.proofs.Indices.{moves-length, moves-at, moves-past, fresh-length, fresh-at, fresh-past, slot-at, range-in}
+use Rattle.layout.proofs.Once.{in-names, same-range}
 use Rattle.step.proofs.Ranges as R
 use Rattle.step.proofs.Roles.{statusIn, standingBy, open-by, status-by, running-by, free-is, end-is, late-is, preceding-is, follow-inside, following-is}
 use Rattle.step.proofs.Status.{running}
@@ -102,10 +103,10 @@ module _ {table : List ℕ} {r : ℕ} {rule : Rule} (h : HoldsRule table r rule)
     own-at = within-own name (rangeAt rule n i) e
 
     sibling-at : (k : ℕ) → k < size n → (k ≡ i → ⊥) → within name (rangeAt rule n k) ≡ sibling
-    sibling-at k hk d = within-sibling name (rangeAt rule n k) (λ z. d (one-place (fragmentAt rule n .ranges) (sound .fine n hn .distinct) k i hk hi (sym z ∙ e)))
+    sibling-at k hk d = within-sibling name (rangeAt rule n k) (λ z. d (same-range (fragmentAt rule n .ranges) (sound .fine n hn .distinct) k i hk hi (sym z ∙ e)))
 
     has-it : T (has rule n name)
-    has-it = isIn← name (fragmentNames (fragmentAt rule n)) (subst (λ (m : ℕ). In m (fragmentNames (fragmentAt rule n))) (sym e) (name-in (fragmentAt rule n .ranges) i hi))
+    has-it = isIn← name (fragmentNames (fragmentAt rule n)) (subst (λ (m : ℕ). In m (fragmentNames (fragmentAt rule n))) (sym e) (in-names (fragmentAt rule n .ranges) i hi))
 
     -- ---- the first event of the fragment
 
@@ -542,7 +543,7 @@ module _ {table : List ℕ} {r : ℕ} {rule : Rule} (h : HoldsRule table r rule)
             look : (b : Bool) → eqb name (st .current) ≡ b → Linked rule time (cond b (longerOf C′ st name time) (otherOf C′ D′ st name time)) after′
             look true q =
                 let y : name ≡ st .current = eqb-true name (st .current) q in
-                let k : i ≡ j = one-place rs (sound .fine (S .fragment) (w .inside) .distinct) i j hi′ (w .held) (sym e′ ∙ y ∙ w .current) in
+                let k : i ≡ j = same-range rs (sound .fine (S .fragment) (w .inside) .distinct) i j hi′ (w .held) (sym e′ ∙ y ∙ w .current) in
                 subst (λ (m : ℕ). Linked rule time (longerOf (cellIn table r m) st m time) (step rule S (record { name = m; time = time }))) (sym y) (longer-linked D′ cell-d t′)
             look false q = other-linked i name C′ D′ hi′ e′ (λ k. eqb-false name (st .current) q (e′ ∙ ap (λ (m : ℕ). rangeAt rule (S .fragment) m .name) k ∙ sym (w .current))) c′ cell-d t′
 

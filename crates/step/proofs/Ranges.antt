@@ -25,7 +25,7 @@ use Rattle.fragment.specs.Fragments.{noneWaits, completeOf, growsOf}
 use Rattle.fragment.proofs.States.{doneAt, none-waits→, none-waits←}
 use Rattle.step.specs.declared.RuleState.{RuleState}
 use Rattle.step.specs.Shows.{Sound, Counting}
-use Rattle.step.proofs.Indices.{slot-ranges, slot-at, Placed, placed, one-place}
+use Rattle.step.proofs.Indices.{slot-ranges, slot-at, Placed, placed}
 
 -- two tests that imply each other are one
 same-test : (a b : Bool) → (T a → T b) → (T b → T a) → a ≡ b
