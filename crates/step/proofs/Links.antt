@@ -14,22 +14,23 @@ use lib.ListN.{length, getD, set, List·getD-map, length-map, length-set}
 use lib.Seq.{getD-set-same, getD-set-other}
 use borrow.Author.Tests.{le-leb, lt-leb, leb-true, leb-false, ltb-true, ltb-false, eq-eqb, ne-eqb, eqb-true, eqb-false}
 use Rattle.pattern.specs.Lists.{In, isIn, anyOf}
-use Rattle.pattern.specs.Meaning.{Event, Range, Join, Fragment, fragmentNames, Kind, Rule, namesOf, AtMost, Enough, Status, broken, whole, open′}
-use Rattle.pattern.specs.Recogniser.{State, idle, unbegun, waiting, counting, done, error, stateNumber, Class, own, sibling, next, other, hasEnough, hasRoom, move, isError, Slot, slots, moves, counts, notBegun, within, erred, complete, canGrow}
+use Rattle.pattern.specs.Meaning.{Event, Range, fragmentNames, Kind, once, repeated, timed, Rule, namesOf}
+use Rattle.pattern.specs.Recogniser.{State, idle, unbegun, waiting, counting, done, error, stateNumber, Class, own, sibling, next, other, hasEnough, hasRoom, move, isUnbegun, isError, Slot, slots, moves, counts, notBegun, within, erred, complete, canGrow}
 use Rattle.pattern.specs.Model.{roundOf, inTime, isOnce, fragmentAt, has, isLast, following, afterP, slotsOf, joinOf, fresh, released, late, classOf, endAfter, begin, moved, passes, stay, step, atRest, statusAt, pressed}
 use Rattle.pattern.specs.Model as M
-use Rattle.pattern.proofs.Basics.{both, both-l, both-r, is-true, is-false, any←, isIn←, zero-one, test}
+use Rattle.pattern.proofs.Basics.{either-r, is-true, is-false, any←, isIn←, zero-one}
 use Rattle.pattern.proofs.Standing.{itself}
 use Rattle.pattern.proofs.Running.{slot, Calm, within-own, within-sibling, Fine, Waits, count-longer, count-begun}
 use Rattle.pattern.proofs.Fragment.{X, Checked, Held, start-count}
 use Rattle.pattern.proofs.Keeps.{Erred, stays-erred, held, moves-same, in-moved, after, late-errs, inside-is, inside-errs, foreign-errs, passing-is, incomplete-errs}
 use Rattle.recogniser.specs.Numbers.{stateOf, nextState}
+use Rattle.layout.specs.Layout.{timeOf}
 use Rattle.layout.specs.Pages.{noRange, rangeAt}
 use Rattle.tables.specs.Cells.{fragmentIn, indexIn, roleIn, beforeIn, anyIn, lessIn, leastIn, mostIn, limitAt, cellAt, limitIn, isTimed, roleOf, preceding, Cell, HoldsRule}
 use Rattle.fragment.specs.Fragments.{zeros, begunOf, completeOf, growsOf}
 use Rattle.fragment.proofs.Bytes.{same-list}
 use Rattle.fragment.proofs.States.{begunAt, begun-length, begun-at}
-use Rattle.deadline.specs.Deadlines.{lateOf, endOf}
+use Rattle.deadline.specs.Deadlines.{pastOf, lateOf, endOf}
 use Rattle.step.specs.declared.RuleState.{RuleState}
 use Rattle.step.specs.declared.Stepped.{Stepped}
 use Rattle.step.specs.Steps.{brokenOf, standingOf, stoodOf, beginOf, movedBy, longerOf, otherOf, passOf, cellIn, actOf}
@@ -37,11 +38,8 @@ use Rattle.step.specs.Shows.{At, Sound, Counting, Shows, untouched, free
 use Rattle.step.proofs.Indices.{moves-length, moves-at, moves-past, fresh-length, fresh-at, fresh-past, slot-at, range-in}
 use Rattle.layout.proofs.Once.{in-names, same-range}
 use Rattle.step.proofs.Ranges as R
-use Rattle.step.proofs.Roles.{statusIn, standingBy, open-by, status-by, running-by, free-is, end-is, late-is, preceding-is, follow-inside, following-is}
+use Rattle.step.proofs.Roles.{clash, not-leb, statusIn, standingBy, open-by, status-by, running-by, free-is, end-is, late-is, preceding-is, follow-inside, following-is}
 use Rattle.step.proofs.Status.{running}
-
-clash : {A : Type 0} → false ≡ true → A
-clash e = let z : _≡_ {A = ℕ} 0 1 = cc in absurd (zero-one z)
 
 -- what is to be shown of a step
 pub record Linked (rule : Rule) (time : ℕ) (s : Stepped) (S : M.RuleState) : Type 0 where
@@ -690,3 +688,38 @@ module _ {table : List ℕ} {r : ℕ} {rule : Rule} (h : HoldsRule table r rule)
   acts st S (untouched z q) name m = let p = sound .named name m in subst (λ (x : M.RuleState). Linked rule time (actOf table r st name time) (step rule x (record { name = name; time = time }))) (sym q) (acts-fresh st name (p .n) (p .i) z (p .inside) (p .held) (p .is))
   acts st S (freed some free n i hn hi role e) name m = acts-freed st S name n i some free hn hi role e
   acts st S (begun j w) name m = let p = sound .named name m in acts-begun st S j w name (p .n) (p .i) (p .inside) (p .held) (p .is)
+
+-- ---- a rule whose deadline runs
+
+-- a rule to which nothing has come is at rest
+fresh-rests : {rule : Rule} → Sound rule → atRest rule (fresh rule) ≡ true
+fresh-rests {rule} sound = is-true (atRest rule (fresh rule)) (either-r (released rule (fresh rule)) (anyOf (λ (y : Slot). isUnbegun (y .state)) (slotsOf rule (fresh rule))) (any← (λ (y : Slot). isUnbegun (y .state)) (slotsOf rule (fresh rule)) (slot (rangeAt rule 0 0) unbegun) x-in tt))
+  where
+    inside : 0 < length (roundOf rule)
+    inside = omega (arith, sound .after)
+
+    few : length (fragmentAt rule 0 .ranges) ≤ 8
+    few = sound .count 0 inside .1
+
+    x-in : In (slot (rangeAt rule 0 0) unbegun) (slotsOf rule (fresh rule))
+    x-in = subst (λ (s : State). In (slot (rangeAt rule 0 0) s) (slotsOf rule (fresh rule))) (fresh-at (fragmentAt rule 0 .ranges) 8 0 few (sound .count 0 inside .0)) (slot-at (fragmentAt rule 0 .ranges) (notBegun (fragmentAt rule 0 .ranges) 8) 0 (subst (λ (m : ℕ). length (fragmentAt rule 0 .ranges) ≤ m) (sym (fresh-length (fragmentAt rule 0 .ranges) 8)) few) (sound .count 0 inside .0))
+
+-- it has begun, and the end of P is the model's
+runs-end : {rule : Rule} → Sound rule → (st : RuleState) (S : M.RuleState) → Shows rule st S → running rule S ≡ true → st .end ≡ S .end
+runs-end {rule} sound st S (untouched z q) e = clash (sym (ap (λ (x : M.RuleState). running rule x) q ∙ rw (fresh-rests sound) (and-false (isTimed (rule .kind)))) ∙ e)
+runs-end {rule} sound st S (freed some free n i hn hi role y) e = let rests : atRest rule S ≡ true = rw free in clash (sym (rw rests (and-false (isTimed (rule .kind)))) ∙ e)
+runs-end sound st S (begun j w) e = w .end
+
+-- so that it is held to the model's deadline
+pub held-to : {table : List ℕ} {r : ℕ} {rule : Rule} → HoldsRule table r rule → Sound rule → (st : RuleState) (S : M.RuleState) → Shows rule st S → running rule S ≡ true → (time : ℕ) → pastOf (limitIn (getD table (limitAt r) 0)) (st .end) time ≡ not (inTime (rule .kind) (S .end) time)
+unfolding pastOf
+held-to {table} {r} {rule} h sound st S w e time = ap₂ (λ (t end : ℕ). ltb (end + t) time) (h .limit) (runs-end sound st S w e) ∙ look (rule .kind) (running-timed (isTimed (rule .kind)) (not (atRest rule S) && (not (erred (slotsOf rule S)) && pressed rule S)) e)
+  where
+    running-timed : (a b : Bool) → (a && b) ≡ true → a ≡ true
+    running-timed true b q = refl
+    running-timed false b q = clash q
+
+    look : (k : Kind) → isTimed k ≡ true → ltb (S .end + timeOf k) time ≡ not (inTime k (S .end) time)
+    look (once i) q = clash q
+    look (repeated i) q = clash q
+    look (timed q′ t) q = not-leb (S .end + t) time

@@ -15,7 +15,7 @@ use Rattle.tables.specs.Cells.{roleIn, isTimed, roleAfter, roleInP, roleOf, pre
 use Rattle.deadline.specs.Deadlines.{pastOf, lateOf, endOf}
 use Rattle.step.specs.Shows.{Sound}
 
-clash : {A : Type 0} → false ≡ true → A
+pub clash : {A : Type 0} → false ≡ true → A
 clash e = let z : _≡_ {A = ℕ} 0 1 = cc in absurd (zero-one z)
 
 -- the status that a standing says
@@ -105,7 +105,7 @@ free-by (timed q t) false L false = refl
 
 -- ---- of a fragment's number
 
-not-leb : (a b : ℕ) → ltb a b ≡ not (leb b a)
+pub not-leb : (a b : ℕ) → ltb a b ≡ not (leb b a)
 not-leb a b = look (leb b a) refl
   where
     look : (c : Bool) → leb b a ≡ c → ltb a b ≡ not c
