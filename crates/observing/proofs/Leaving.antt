@@ -3,16 +3,17 @@
 use mathlib.Core.Path.{_≡_, refl, sym, _∙_, ap}
 use mathlib.Core.List.{List}
 use Prim.Native.Nat.{ℕ, _+_, _<_, _≤_}
+use lib.ListN.{getD}
 use native.Mathlib.Omega.{arith}
 use borrow.Author.Tests.{le-leb, lt-leb, le-ltb, lt-ltb, eq-eqb, ne-eqb}
 use Rattle.pattern.specs.Judge.{Verdict}
 use Rattle.pattern.specs.Judge as J
 use Rattle.pattern.proofs.Basics.{zero-one}
-use Rattle.step.specs.Steps.{Tables}
+use Rattle.tables.specs.Cells.{maskIn}
 use Rattle.words.specs.Words.{Held, heldBy, rulesIn}
 use Rattle.rules.specs.Pass.{Pass, Passes}
-use Rattle.observing.specs.Observe.{nameOf, timeOf, concernedBy, judgedOf, refusedOf, takenOf, lookedOf, observeOf}
-use Rattle.observing.specs.Leaving.{Judges, Leaves}
+use Rattle.observing.specs.Observe.{judgedOf, refusedOf, takenOf, lookedOf, observeOf}
+use Rattle.observing.specs.Leaving.{Judges, Leaves, Refusal}
 use Rattle.observing.specs.declared.Observation.{Observation}
 use Rattle.observing.specs.declared.Observation.the-variants.{Event, Clock}
 use Rattle.rules.specs.declared.Masks.{Masks}
@@ -24,66 +25,74 @@ use Rattle.observing.specs.declared.Answer.the-variants.{Broken, Refused
 pub no-refusal : (v : Verdict) (n : ℕ) → J.verdict v ≡ J.refused n → ⊥
 no-refusal v n e = let w : _≡_ {A = ℕ} 0 1 = cc in zero-one w
 
--- ---- an observation by its name
+-- ---- the refusals of an observation whose name is right
 
-pub looked-past : (t : Tables) (holders : List ℕ) (m : Held) (o : Observation) → 64 ≤ nameOf o → lookedOf t holders m o ≡ refusedOf m 12
-unfolding lookedOf
-looked-past t holders m (Event name time) h = rw (le-leb 64 name h)
-looked-past t holders m (Clock time) h = absurd (omega arith)
+module _ (m : Held) (time : ℕ) where
+  pub refused-early : time < m .latest → Refusal m time 11
+  unfolding takenOf
+  refused-early h = record { taken = λ e. absurd (omega (arith, e)); refused = λ n table concerned name. rw (lt-ltb time (m .latest) h) }
 
-pub looked-taken : (t : Tables) (holders : List ℕ) (m : Held) (o : Observation) → nameOf o < 64 → lookedOf t holders m o ≡ takenOf t m (concernedBy holders o) (nameOf o) (timeOf o)
-unfolding lookedOf
-looked-taken t holders m (Event name time) h = rw (lt-leb 64 name h)
-looked-taken t holders m (Clock time) h = refl
+  pub refused-full : m .latest ≤ time → 4294967295 ≤ m .taken → Refusal m time 13
+  unfolding takenOf
+  refused-full h g = record {
+    taken = λ e. absurd (omega (arith, e));
+    refused = λ n table concerned name. rw (le-ltb time (m .latest) h, le-leb 4294967295 (m .taken) g);
+  }
+
+  pub not-refused : m .latest ≤ time → m .taken < 4294967295 → Refusal m time 0
+  not-refused h g = record { taken = λ e. (h, g); refused = λ n. absurd (n refl) }
 
 -- ---- what the code leaves
 
-module _ (t : Tables) (before : List ℕ) (concerned name time : ℕ) where
+module _ (table before : List ℕ) (concerned name time : ℕ) where
   abbrev m : Held
   m = heldBy before
 
-  pub leaves-early : time < m .latest → Leaves before (takenOf t m concerned name time) (Refused 11) before
-  unfolding takenOf refusedOf
-  leaves-early h = record { long = λ l. l; leaves = λ l. sym (rw (lt-ltb time (m .latest) h)); unchanged = λ n e. refl }
+  pub leaves-refused : (n : ℕ) → Refusal m time n → (n ≡ 0 → ⊥) → Leaves before (takenOf table m concerned name time) (Refused n) before
+  unfolding refusedOf
+  leaves-refused n r h = record { long = λ l. l; leaves = λ l. sym (r .refused h table concerned name); unchanged = λ i e. refl }
 
-  pub leaves-full : m .latest ≤ time → 4294967295 ≤ m .taken → Leaves before (takenOf t m concerned name time) (Refused 13) before
-  unfolding takenOf refusedOf
-  leaves-full h g = record { long = λ l. l; leaves = λ l. sym (rw (le-ltb time (m .latest) h, le-leb 4294967295 (m .taken) g)); unchanged = λ n e. refl }
-
-  pub leaves-taken : m .latest ≤ time → m .taken < 4294967295 → (opens dues k : ℕ) → opens ≡ m .mask → dues ≡ m .dues → k ≡ m .taken + 1
-      → (p : Masks) (between : List ℕ) → Passes t concerned opens dues name time before p between
+  pub leaves-taken : {n : ℕ} → Refusal m time n → n ≡ 0 → (opens dues k : ℕ) → opens ≡ m .mask → dues ≡ m .dues → k ≡ m .taken + 1
+      → (p : Masks) (between : List ℕ) → Passes table concerned opens dues name time before p between
       → (a : Answer) (after : List ℕ) → Judges between (judgedOf (record { rules = rulesIn between; broken = p .broken; opens = p .opens; dues = p .dues }) k time) a after
-      → Leaves before (takenOf t m concerned name time) a after
+      → Leaves before (takenOf table m concerned name time) a after
   unfolding takenOf
-  leaves-taken h g opens dues k eo ed ek p between passes a after judges = record {
-    long = λ l. judges .long (passes .long l);
-    leaves = λ l.
-        judges .leaves (passes .long l) ∙ ap (λ (x : Pass). judgedOf x k time) (passes .passes l)
-        ∙ rw (eo, ed, ek, le-ltb time (m .latest) h, lt-leb 4294967295 (m .taken) g);
-    unchanged = λ n e. absurd (judges .taken n e);
-  }
+  leaves-taken r zero opens dues k eo ed ek p between passes a after judges =
+      let (h, g) = r .taken zero in
+      record {
+        long = λ l. judges .long (passes .long l);
+        leaves = λ l.
+            judges .leaves (passes .long l) ∙ ap (λ (x : Pass). judgedOf x k time) (passes .passes l)
+            ∙ rw (eo, ed, ek, le-ltb time (m .latest) h, lt-leb 4294967295 (m .taken) g);
+        unchanged = λ n e. absurd (judges .taken n e);
+      }
 
-module _ (t : Tables) (holders before : List ℕ) (o : Observation) where
+module _ (table before : List ℕ) where
   abbrev m′ : Held
   m′ = heldBy before
 
-  pub leaves-stopped : m′ .verdict ≡ 2 → (k mask : ℕ) → k ≡ m′ .taken → mask ≡ m′ .mask → Leaves before (observeOf t holders m′ o) (Broken k mask) before
+  pub leaves-stopped : (o : Observation) → m′ .verdict ≡ 2 → (k mask : ℕ) → k ≡ m′ .taken → mask ≡ m′ .mask → Leaves before (observeOf table m′ o) (Broken k mask) before
   unfolding observeOf
-  leaves-stopped h k mask ek em = record {
+  leaves-stopped o h k mask ek em = record {
     long = λ l. l;
     leaves = λ l. rw (ek, em) (sym (rw (eq-eqb (m′ .verdict) 2 h)));
     unchanged = λ n e. absurd (no-refusal _ n e);
   }
 
-  module _ (running′ : m′ .verdict ≡ 2 → ⊥) where
-    pub leaves-unnamed : 64 ≤ nameOf o → Leaves before (observeOf t holders m′ o) (Refused 12) before
-    unfolding observeOf refusedOf
-    leaves-unnamed h = record { long = λ l. l; leaves = λ l. sym (rw (ne-eqb (m′ .verdict) 2 running′) (looked-past t holders m′ o h)); unchanged = λ n e. refl }
+  module _ (running′ : m′ .verdict ≡ 2 → ⊥) (time : ℕ) where
+    pub leaves-unnamed : (name : ℕ) → 64 ≤ name → Leaves before (observeOf table m′ (Event name time)) (Refused 12) before
+    unfolding observeOf lookedOf refusedOf
+    leaves-unnamed name h = record { long = λ l. l; leaves = λ l. sym (rw (ne-eqb (m′ .verdict) 2 running′, le-leb 64 name h)); unchanged = λ n e. refl }
 
-    pub leaves-named : nameOf o < 64 → (a : Answer) (after : List ℕ) → Leaves before (takenOf t m′ (concernedBy holders o) (nameOf o) (timeOf o)) a after → Leaves before (observeOf t holders m′ o) a after
-    unfolding observeOf
-    leaves-named h a after l = record {
+    pub leaves-named : (name : ℕ) → name < 64 → {concerned : ℕ} → concerned ≡ maskIn (getD table name 0) → {a : Answer} {after : List ℕ} → Leaves before (takenOf table m′ concerned name time) a after
+        → Leaves before (observeOf table m′ (Event name time)) a after
+    unfolding observeOf lookedOf
+    leaves-named name h mask l = record {
       long = l .long;
-      leaves = λ e. l .leaves e ∙ sym (rw (ne-eqb (m′ .verdict) 2 running′) (looked-taken t holders m′ o h));
+      leaves = λ e. l .leaves e ∙ rw mask (sym (rw (ne-eqb (m′ .verdict) 2 running′, lt-leb 64 name h)));
       unchanged = l .unchanged;
     }
+
+    pub leaves-clock : {a : Answer} {after : List ℕ} → Leaves before (takenOf table m′ 0 0 time) a after → Leaves before (observeOf table m′ (Clock time)) a after
+    unfolding observeOf lookedOf
+    leaves-clock l = record { long = l .long; leaves = λ e. l .leaves e ∙ sym (rw (ne-eqb (m′ .verdict) 2 running′)); unchanged = l .unchanged }

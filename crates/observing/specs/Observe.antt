@@ -1,4 +1,4 @@
--- One observation of a book's monitor, over the book's tables.
+-- One observation of a book's monitor, over the book's table.
 -- Assumes nothing.
 use mathlib.Core.Bool.{cond}
 use mathlib.Core.List.{List}
@@ -10,26 +10,13 @@ use Rattle.observing.specs.declared.Observation.{Observation}
 use Rattle.observing.specs.declared.Observation.the-variants.{Event, Clock}
 use Rattle.observing.specs.declared.Answer.{Answer}
 use Rattle.observing.specs.declared.Answer.the-variants.{Whole, Open, Broken, Refused}
-use Rattle.step.specs.Steps.{Tables}
+use Rattle.tables.specs.Cells.{maskIn}
 use Rattle.rules.specs.Pass.{Pass, passOf}
 
 -- a monitor after an observation, and the answer
 pub record Observed : Type 0 where
   pub monitor : Held
   pub answer : Answer
-
--- an observation's name, 0 for a clock reading; its time; and the rules that it concerns
-abbrev pub nameOf : Observation → ℕ
-nameOf (Event name time) = name
-nameOf (Clock time) = 0
-
-abbrev pub timeOf : Observation → ℕ
-timeOf (Event name time) = time
-timeOf (Clock time) = time
-
-abbrev pub concernedBy : List ℕ → Observation → ℕ
-concernedBy holders (Event name time) = getD holders name 0
-concernedBy holders (Clock time) = 0
 
 -- the verdict of a pass over the rules, at the k-th observation taken
 unfoldable pub judgedOf : Pass → ℕ → ℕ → Observed
@@ -44,15 +31,16 @@ unfoldable pub refusedOf : Held → ℕ → Observed
 refusedOf m n = record { monitor = m; answer = Refused n }
 
 -- an observation whose name is right: concerned is the mask of the rules that have it
-unfoldable pub takenOf : Tables → Held → ℕ → ℕ → ℕ → Observed
-takenOf b m concerned name time =
+unfoldable pub takenOf : List ℕ → Held → ℕ → ℕ → ℕ → Observed
+takenOf table m concerned name time =
     cond (ltb time (m .latest)) (refusedOf m 11)
     (cond (leb 4294967295 (m .taken)) (refusedOf m 13)
-    (judgedOf (passOf b concerned (m .mask) (m .dues) (m .rules) name time) (m .taken + 1) time))
+    (judgedOf (passOf table concerned (m .mask) (m .dues) (m .rules) name time) (m .taken + 1) time))
 
-unfoldable pub lookedOf : Tables → List ℕ → Held → Observation → Observed
-lookedOf b holders m (Event name time) = cond (leb 64 name) (refusedOf m 12) (takenOf b m (getD holders name 0) name time)
-lookedOf b holders m (Clock time) = takenOf b m 0 0 time
+-- an event concerns the rules that have its name, a clock reading none
+unfoldable pub lookedOf : List ℕ → Held → Observation → Observed
+lookedOf table m (Event name time) = cond (leb 64 name) (refusedOf m 12) (takenOf table m (maskIn (getD table name 0)) name time)
+lookedOf table m (Clock time) = takenOf table m 0 0 time
 
-unfoldable pub observeOf : Tables → List ℕ → Held → Observation → Observed
-observeOf b holders m o = cond (eqb (m .verdict) 2) (record { monitor = m; answer = Broken (m .taken) (m .mask) }) (lookedOf b holders m o)
+unfoldable pub observeOf : List ℕ → Held → Observation → Observed
+observeOf table m o = cond (eqb (m .verdict) 2) (record { monitor = m; answer = Broken (m .taken) (m .mask) }) (lookedOf table m o)

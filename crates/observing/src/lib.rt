@@ -1,10 +1,9 @@
-// One observation of a book's monitor (document 01, "Observing"), for every table and every monitor: the monitor's 34 words are lent and changed in place, and the book's arrays are lent by
+// One observation of a book's monitor (document 01, "Observing"), for every table and every monitor: the monitor's 34 words are lent and changed in place, and the book's table is lent by
 // reference. What it makes of the rules is crate `rules`; what it means for the book of a sheet is crate `monitor`.
-ghost use mathlib.Core.Path.{_≡_};
-ghost use Prim.Native.Nat.{_<_};
 ghost use Rattle.words.specs.Words.{heldBy, rulesIn};
-ghost use Rattle.observing.specs.Observe.{nameOf, timeOf, concernedBy, judgedOf, takenOf, observeOf};
-ghost use Rattle.observing.specs.Leaving.{Judges, Leaves};
+ghost use Rattle.observing.specs.Observe.{judgedOf, observeOf};
+ghost use Rattle.observing.specs.Leaving.{Judges, Leaves, Refusal};
+ghost use Rattle.observing.specs.declared.Observation.the-variants.{Event, Clock};
 use rules::Masks;
 
 // "an event or a clock reading (a time alone)"
@@ -40,94 +39,66 @@ fn judged(m: &mut [u64; 34], p: Masks, k: u32, time: u32) -> Answer
     Answer::Whole
 }
 
-// An observation whose name is right; `concerned` is the mask of the rules that have it. It is refused if it comes before the latest one or if the count is full: "A refused one answers
-// its refusal number alone and changes nothing."
-fn taken<'a>(
-    heads: &'a [u64; 16],
-    fragments: &'a [u16; 256],
-    names: &'a [u64; 256],
-    ranges: &'a [u64; 2048],
-    m: &mut [u64; 34],
-    concerned: u16,
-    name: u8,
-    time: u32,
-) -> Answer
-    ensures { λ r. ⌜ Leaves (now (m .entry)) (takenOf (record { heads = now (heads .entry); fragments = now (fragments .entry); names = now (names .entry); ranges = now (ranges .entry) }) (heldBy (now (m .entry))) concerned name time) r (now (m .exit)) ⌝ }
+// The refusal of an observation whose name is right: 11 if it comes before the latest one, 13 if the count is full, and 0 if it is taken. "A refused one answers its refusal number alone
+// and changes nothing."
+fn refusal(m: &[u64; 34], time: u32) -> u8
+    ensures { λ n. ⌜ Refusal (heldBy (now (m .entry))) time n ⌝ }
 {
     if time < words::latest(m) {
-        return Answer::Refused(11);
+        return 11;
     }
-    let before = words::taken(m);
-    if before == 4294967295 {
-        return Answer::Refused(13);
+    if words::taken(m) == 4294967295 {
+        return 13;
     }
-    let opens = words::mask(m);
-    let dues = words::dues(m);
-    let p = rules::looked(
-        heads,
-        fragments,
-        names,
-        ranges,
-        m,
-        concerned,
-        opens,
-        dues,
-        name,
-        time,
-    );
-    judged(m, p, before + 1, time)
+    0
 }
 
-// The name of an event; of a clock reading one that no table is looked up for.
-fn name_of(o: Observation) -> u8
-    ensures { λ r. ⌜ r ≡ nameOf o ⌝ }
-{
-    match o {
-        Observation::Event(name, _) => name,
-        Observation::Clock(_) => 0,
-    }
-}
-
-fn time_of(o: Observation) -> u32
-    ensures { λ r. ⌜ r ≡ timeOf o ⌝ }
-{
-    match o {
-        Observation::Event(_, time) => time,
-        Observation::Clock(time) => time,
-    }
-}
-
-// The rules that have an event's name; a clock reading concerns no rule.
-fn concerned_by(holders: &[u16; 64], o: Observation) -> u16
-    requires { ⌜ nameOf o < 64 ⌝ }
-    ensures { λ r. ⌜ r ≡ concernedBy (now (holders .entry)) o ⌝ }
-{
-    match o {
-        Observation::Event(name, _) => holders[name as usize],
-        Observation::Clock(_) => 0u16,
-    }
-}
-
-// One observation, for every table and every monitor. "A stopped book gives that same answer to every later observation, unchecked." A name of 64 or more is refused.
-pub fn observed_by<'a>(
-    heads: &'a [u64; 16],
-    fragments: &'a [u16; 256],
-    names: &'a [u64; 256],
-    ranges: &'a [u64; 2048],
-    holders: &'a [u16; 64],
-    m: &mut [u64; 34],
-    o: Observation,
-) -> Answer
-    ensures { λ r. ⌜ Leaves (now (m .entry)) (observeOf (record { heads = now (heads .entry); fragments = now (fragments .entry); names = now (names .entry); ranges = now (ranges .entry) }) (now (holders .entry)) (heldBy (now (m .entry))) o) r (now (m .exit)) ⌝ }
+// An event. "A stopped book gives that same answer to every later observation, unchecked." A name of 64 or more is refused, so that the table has the name.
+pub fn noted(table: &[u64; 1104], m: &mut [u64; 34], name: u32, time: u32) -> Answer
+    ensures { λ r. ⌜ Leaves (now (m .entry)) (observeOf (now (table .entry)) (heldBy (now (m .entry))) (Event name time)) r (now (m .exit)) ⌝ }
 {
     if words::verdict(m) == 2 {
         return Answer::Broken(words::taken(m), words::mask(m));
     }
-    let name = name_of(o);
     if 64 <= name {
         return Answer::Refused(12);
     }
-    let concerned = concerned_by(holders, o);
-    let time = time_of(o);
-    taken(heads, fragments, names, ranges, m, concerned, name, time)
+    let concerned = tables::mask_in(table[name as usize]);
+    let n = refusal(m, time);
+    if n != 0 {
+        return Answer::Refused(n);
+    }
+    let before = words::taken(m);
+    let opens = words::mask(m);
+    let dues = words::dues(m);
+    let p = rules::looked(table, m, concerned, opens, dues, name as u8, time);
+    judged(m, p, before + 1, time)
+}
+
+// A clock reading. It concerns no rule, so that none steps.
+pub fn ticked(table: &[u64; 1104], m: &mut [u64; 34], time: u32) -> Answer
+    ensures { λ r. ⌜ Leaves (now (m .entry)) (observeOf (now (table .entry)) (heldBy (now (m .entry))) (Clock time)) r (now (m .exit)) ⌝ }
+{
+    if words::verdict(m) == 2 {
+        return Answer::Broken(words::taken(m), words::mask(m));
+    }
+    let n = refusal(m, time);
+    if n != 0 {
+        return Answer::Refused(n);
+    }
+    let before = words::taken(m);
+    let opens = words::mask(m);
+    let dues = words::dues(m);
+    let p = rules::held(table, m, opens, dues, time);
+    judged(m, p, before + 1, time)
+}
+
+// One observation, for every table and every monitor.
+pub fn observed_by(table: &[u64; 1104], m: &mut [u64; 34], o: Observation) -> Answer
+    ensures { λ r. ⌜ Leaves (now (m .entry)) (observeOf (now (table .entry)) (heldBy (now (m .entry))) o) r (now (m .exit)) ⌝ }
+{
+    match o {
+        Observation::Event(name, time) => noted(table, m, name as u32, time),
+        Observation::Clock(time) => ticked(table, m, time),
+    }
 }

@@ -1,17 +1,12 @@
--- A monitor that has taken nothing, over the fragments of a book.
+-- A monitor that has taken nothing. It is the same for every book: a rule to which nothing has come has a count of 0, and its first event begins a fragment whatever the states are.
 -- Assumes nothing.
-use mathlib.Core.List.{List}
-use Prim.Native.Nat.{ℕ, _*_}
-use lib.ListN.{getD, replicate}
-use Rattle.tables.specs.Words.{countIn}
+use lib.ListN.{replicate}
 use Rattle.step.specs.declared.RuleState.{RuleState}
-use Rattle.fragment.specs.Upto.{mapN}
-use Rattle.fragment.specs.Fragments.{freshStates}
-use Rattle.words.specs.Words.{noState, Held}
+use Rattle.words.specs.Words.{Held}
 
--- a fresh rule stands before its first fragment
-abbrev pub freshRule : List ℕ → ℕ → RuleState → RuleState
-freshRule fragments r st = record { fragment = 0; states = freshStates (countIn (getD fragments (16 * r) 0)); count = 0; end = 0 }
+-- "1 fragment not begun", for each of the eight
+abbrev pub freshState : RuleState
+freshState = record { fragment = 0; current = 0; states = replicate 8 1; count = 0; end = 0 }
 
-unfoldable pub freshOf : List ℕ → Held
-freshOf fragments = record { rules = mapN (freshRule fragments) 0 16 (replicate 16 noState); taken = 0; latest = 0; verdict = 0; mask = 0; dues = 0 }
+unfoldable pub freshHeld : Held
+freshHeld = record { rules = replicate 16 freshState; taken = 0; latest = 0; verdict = 0; mask = 0; dues = 0 }

@@ -1,22 +1,21 @@
-// A monitor's words before any observation, for every table of fragments.
+// A monitor's words before any observation. They do not depend on the book.
 ghost use Rattle.words.specs.Words.{Holds};
-ghost use Rattle.opening.specs.Fresh.{freshOf};
+ghost use Rattle.opening.specs.Fresh.{freshHeld};
 
-// A monitor that has taken nothing: every rule stands before its first fragment.
-pub fn unstarted(fragments: &[u16; 256]) -> [u64; 34]
-    ensures { λ m. ⌜ Holds m (freshOf (now (fragments .entry))) ⌝ }
+// A monitor that has taken nothing: to no rule has anything come.
+pub fn unstarted() -> [u64; 34]
+    ensures { λ m. ⌜ Holds m freshHeld ⌝ }
 {
+    let st = step::RuleState {
+        fragment: 0,
+        current: 0,
+        states: [1u8; 8],
+        count: 0,
+        end: 0,
+    };
     let mut m = [0u64; 34];
     let mut r = 0usize;
     while r < 16 {
-        let size = tables::ranges_in(fragments[16 * r]) as usize;
-        let states = fragment::fresh_states(size);
-        let st = step::RuleState {
-            fragment: 0,
-            states: states,
-            count: 0,
-            end: 0,
-        };
         words::store(&mut m, r, st);
         r = r + 1;
     }

@@ -20,12 +20,12 @@ use Rattle.masks.proofs.Members.{mask-is}
 use Rattle.step.specs.declared.RuleState.{RuleState}
 use Rattle.step.specs.declared.Stepped.{Stepped}
 use Rattle.fragment.specs.Upto.{mapN}
-use Rattle.step.specs.Steps.{Tables}
+use Rattle.step.specs.Steps.{actOf}
 use Rattle.words.specs.Words.{noState, rulesIn, Stores}
 use Rattle.words.proofs.Laws.{middle, upper}
 use Rattle.words.proofs.Places.{mapN-alike, mapN-same, set-mapN, getD-mapN}
 use Rattle.rules.specs.declared.Masks.{Masks}
-use Rattle.rules.specs.Pass.{Pass, Marks, Notes, Waits, Tells, Steps, StepsAll, Passes, brokenIn, openIn, dueIn, marksOf, stepsAt, actedOf, waitedOf, ruleOf, isBroken, isOpen, isDue, stateAt, brokenAt, openAt, dueAt, passOf}
+use Rattle.rules.specs.Pass.{Pass, Marks, Notes, Waits, Tells, Steps, StepsAll, Passes, brokenIn, openIn, dueIn, marksOf, stepsAt, waitedOf, ruleOf, isBroken, isOpen, isDue, stateAt, brokenAt, openAt, dueAt, passOf}
 
 -- ---- one rule's marks
 
@@ -187,12 +187,12 @@ module _ (noted who : ℕ) (stands : ℕ → ℕ) where
 
 -- ---- where they step
 
-module _ (b : Tables) (noted who name time : ℕ) (old : List RuleState) where
+module _ (table : List ℕ) (noted who name time : ℕ) (old : List RuleState) where
   abbrev stands : ℕ → ℕ
-  stands k = actedOf b k (getD old k noState) name time .standing
+  stands k = actOf table k (getD old k noState) name time .standing
 
   abbrev seenState : ℕ → ℕ → RuleState → RuleState
-  seenState todo k st = cond (seen noted who stands todo k) (actedOf b k st name time .state) st
+  seenState todo k st = cond (seen noted who stands todo k) (actOf table k st name time .state) st
 
   pub record Stepping (rules : List RuleState) (todo all : ℕ) : Type 0 where
     pub sixteen : length old ≡ 16
@@ -202,7 +202,7 @@ module _ (b : Tables) (noted who name time : ℕ) (old : List RuleState) where
   pub stepping-start : length old ≡ 16 → Stepping old who noted
   stepping-start l = record {
     sixteen = l;
-    states = sym (mapN-same (seenState who) 0 16 old (λ k st. ap (λ (t : Bool). cond t (actedOf b k st name time .state) st) (and-not-self (member who k))));
+    states = sym (mapN-same (seenState who) 0 16 old (λ k st. ap (λ (t : Bool). cond t (actOf table k st name time .state) st) (and-not-self (member who k))));
     notes = noting-start noted who stands;
   }
 
@@ -211,29 +211,29 @@ module _ (b : Tables) (noted who name time : ℕ) (old : List RuleState) where
   left-alone {rules} {todo} {all} {r} p inside h =
       let unseen : seen noted who stands todo (0 + r) ≡ false = rw (ap (member todo) (zero-add r) ∙ inside) (and-false (member who (0 + r))) in
       ap (λ (l : List RuleState). getD l r noState) (p .states) ∙ getD-mapN (seenState todo) noState 0 16 old r h (omega (arith, p .sixteen))
-      ∙ ap (λ (t : Bool). cond t (actedOf b (0 + r) (getD old r noState) name time .state) (getD old r noState)) unseen
+      ∙ ap (λ (t : Bool). cond t (actOf table (0 + r) (getD old r noState) name time .state) (getD old r noState)) unseen
 
   pub stepping-more : {before after : List ℕ} {todo todo′ all made r s : ℕ} → Stepping (rulesIn before) todo all → member todo r ≡ true → r < 16 → Less todo r todo′
-      → Steps (actedOf b r (getD (rulesIn before) r noState) name time) r before s after → length before ≡ 34 → Marks all r s made → Stepping (rulesIn after) todo′ made
+      → Steps (actOf table r (getD (rulesIn before) r noState) name time) r before s after → length before ≡ 34 → Marks all r s made → Stepping (rulesIn after) todo′ made
   stepping-more {before} {after} {todo} {todo′} {all} {made} {r} {s} p inside rule left st l w =
       let was : getD (rulesIn before) r noState ≡ getD old r noState = left-alone p inside rule in
       let within : (k : ℕ) → member todo k ≡ true → member who k ≡ true = p .notes .within in
-      let this : actedOf b r (getD (rulesIn before) r noState) name time .state ≡ seenState todo′ r (getD old r noState) =
-      ap (λ (x : RuleState). actedOf b r x name time .state) was
-      ∙ sym (ap (λ (t : Bool). cond t (actedOf b r (getD old r noState) name time .state) (getD old r noState)) (seen-this noted who stands within inside left)) in
+      let this : actOf table r (getD (rulesIn before) r noState) name time .state ≡ seenState todo′ r (getD old r noState) =
+      ap (λ (x : RuleState). actOf table r x name time .state) was
+      ∙ sym (ap (λ (t : Bool). cond t (actOf table r (getD old r noState) name time .state) (getD old r noState)) (seen-this noted who stands within inside left)) in
       record {
         sixteen = p .sixteen;
-        states = st .moves l ∙ ap (λ (rules : List RuleState). set rules r (actedOf b r (getD (rulesIn before) r noState) name time .state)) (p .states)
+        states = st .moves l ∙ ap (λ (rules : List RuleState). set rules r (actOf table r (getD (rulesIn before) r noState) name time .state)) (p .states)
             ∙ ap (set (mapN (seenState todo) 0 16 old) r) this
             ∙ set-mapN (seenState todo) (seenState todo′) 16 r old noState rule (omega (arith, p .sixteen))
-            (λ j x n. ap (λ (t : Bool). cond t (actedOf b j x name time .state) x) (sym (seen-other noted who stands within inside left j n)));
-        notes = noting-more noted who stands (p .notes) inside rule left (st .stands ∙ ap (λ (x : RuleState). actedOf b r x name time .standing) was) w;
+            (λ j x n. ap (λ (t : Bool). cond t (actOf table j x name time .state) x) (sym (seen-other noted who stands within inside left j n)));
+        notes = noting-more noted who stands (p .notes) inside rule left (st .stands ∙ ap (λ (x : RuleState). actOf table r x name time .standing) was) w;
       }
 
-  pub stepping-end : {rules : List RuleState} {todo all : ℕ} → Stepping rules todo all → todo ≡ 0 → rules ≡ mapN (stepsAt b who name time) 0 16 old
+  pub stepping-end : {rules : List RuleState} {todo all : ℕ} → Stepping rules todo all → todo ≡ 0 → rules ≡ mapN (stepsAt table who name time) 0 16 old
   stepping-end {rules} {todo} p e =
       p .states
-      ∙ mapN-alike (seenState todo) (stepsAt b who name time) 0 16 old (λ k st h. ap (λ (t : Bool). cond t (actedOf b k st name time .state) st) (all-seen noted who stands e k))
+      ∙ mapN-alike (seenState todo) (stepsAt table who name time) 0 16 old (λ k st h. ap (λ (t : Bool). cond t (actOf table k st name time .state) st) (all-seen noted who stands e k))
 
 -- ---- one observation
 
@@ -259,18 +259,18 @@ made : {rules rules′ : List RuleState} {br op du br′ op′ du′ : ℕ} → 
     → _≡_ {A = Pass} (record { rules = rules; broken = br; opens = op; dues = du }) (record { rules = rules′; broken = br′; opens = op′; dues = du′ })
 made a b c d = rw (a, b, c, d)
 
-module _ (b : Tables) (concerned opens dues name time : ℕ) (before after : List ℕ) where
+module _ (table : List ℕ) (concerned opens dues name time : ℕ) (before after : List ℕ) where
   abbrev old : List RuleState
   old = rulesIn before
 
   abbrev acted : ℕ → Stepped
-  acted k = actedOf b k (getD old k noState) name time
+  acted k = actOf table k (getD old k noState) name time
 
   abbrev waits : ℕ → Stepped
-  waits k = waitedOf (b .heads) k (getD old k noState) time
+  waits k = waitedOf table k (getD old k noState) time
 
-  pub looks : {who touched left held all : ℕ} {p : Masks} → Without dues concerned who → Waits (b .heads) who time old held → StepsAll b held concerned name time before all after
-      → Union concerned dues touched → Without opens touched left → Tells all left p → Passes b concerned opens dues name time before p after
+  pub looks : {who touched left held all : ℕ} {p : Masks} → Without dues concerned who → Waits table who time old held → StepsAll table held concerned name time before all after
+      → Union concerned dues touched → Without opens touched left → Tells all left p → Passes table concerned opens dues name time before p after
   unfolding passOf ruleOf
   looks {who} {touched} {left} {held} {all} {p} w h s u l t =
       let members : (f : ℕ → ℕ) (P : ℕ → Bool) → ((k : ℕ) → member (f held) k ≡ (member (f 0) k || member who k && P (waits k .standing)))
@@ -283,25 +283,25 @@ module _ (b : Tables) (concerned opens dues name time : ℕ) (before after : Lis
         long = s .long;
         passes = λ n.
             let notes = s .notes n in
-            made (s .moves n ∙ mapN-alike (stepsAt b concerned name time) (stateAt b concerned opens dues old name time) 0 16 old
-            (λ k st m. state-either (member concerned k) (member dues k) (actedOf b k st name time) st _))
-            (t .broke ∙ mask-is 16 (brokenIn all) (brokenAt b concerned opens dues old name time) (omega arith)
+            made (s .moves n ∙ mapN-alike (stepsAt table concerned name time) (stateAt table concerned opens dues old name time) 0 16 old
+            (λ k st m. state-either (member concerned k) (member dues k) (actOf table k st name time) st _))
+            (t .broke ∙ mask-is 16 (brokenIn all) (brokenAt table concerned opens dues old name time) (omega arith)
             (λ k m. members brokenIn isBroken (h .broke) (notes .broke) refl k ∙ either (member concerned k) (member dues k) (acted k) (waits k) isBroken))
-            (mask-is 16 (p .opens) (openAt b concerned opens dues old name time) (t .opened<)
+            (mask-is 16 (p .opens) (openAt table concerned opens dues old name time) (t .opened<)
             (λ k m. t .opened .members k ∙ ap (λ (x : Bool). x || member (openIn all) k) (l .members k ∙ ap (λ (x : Bool). member opens k && not x) (u .members k))
             ∙ ap (λ (x : Bool). member opens k && not (member concerned k || member dues k) || x) (members openIn isOpen (h .opened) (notes .opened) refl k)
             ∙ opens-either (member concerned k) (member dues k) (member opens k) (acted k) (waits k) isOpen))
-            (t .due ∙ mask-is 16 (dueIn all) (dueAt b concerned opens dues old name time) (omega arith)
+            (t .due ∙ mask-is 16 (dueIn all) (dueAt table concerned opens dues old name time) (omega arith)
             (λ k m. members dueIn isDue (h .due) (notes .due) refl k ∙ either (member concerned k) (member dues k) (acted k) (waits k) isDue));
       }
 
 -- no rule has the name: none steps
-pub none-step : (b : Tables) (held name time : ℕ) (before : List ℕ) → StepsAll b held 0 name time before held before
-none-step b held name time before =
-    let stands : ℕ → ℕ = λ k. actedOf b k (getD (rulesIn before) k noState) name time .standing in
+pub none-step : (table : List ℕ) (held name time : ℕ) (before : List ℕ) → StepsAll table held 0 name time before held before
+none-step table held name time before =
+    let stands : ℕ → ℕ = λ k. actOf table k (getD (rulesIn before) k noState) name time .standing in
     record {
       long = λ l. l;
-      moves = λ l. sym (mapN-same (stepsAt b 0 name time) 0 16 (rulesIn before) (λ k st. ap (λ (t : Bool). cond t (actedOf b k st name time .state) st) (member-empty k)));
+      moves = λ l. sym (mapN-same (stepsAt table 0 name time) 0 16 (rulesIn before) (λ k st. ap (λ (t : Bool). cond t (actOf table k st name time .state) st) (member-empty k)));
       notes = λ l. record {
         broke = λ k. sym (ap (λ (t : Bool). member (brokenIn held) k || t && isBroken (stands k)) (member-empty k) ∙ or-false (member (brokenIn held) k));
         opened = λ k. sym (ap (λ (t : Bool). member (openIn held) k || t && isOpen (stands k)) (member-empty k) ∙ or-false (member (openIn held) k));

@@ -13,18 +13,16 @@ use Rattle.words.specs.Words.{noState, rulesIn}
 use Rattle.rules.specs.declared.Masks.{Masks}
 use Rattle.masks.specs.Masks.{maskN, Union, With}
 use Rattle.fragment.specs.Upto.{mapN}
-use Rattle.deadline.specs.Plans.{planOf, dueOf}
-use Rattle.step.specs.Steps.{Tables, actOf}
+use Rattle.tables.specs.Cells.{limitAt, limitIn}
+use Rattle.deadline.specs.Deadlines.{dueOf}
+use Rattle.step.specs.Steps.{actOf}
 
--- a rule at an event on one of its names, and a rule that is held to its deadline; at an observation it is the one or the other
-unfoldable pub actedOf : Tables → ℕ → RuleState → ℕ → ℕ → Stepped
-actedOf b r st name time = actOf (b .fragments) (b .names) (b .ranges) r (planOf (getD (b .heads) r 0)) st name time
-
+-- a rule that is held to its deadline; at an observation a rule is that, or it steps (`actOf`), at an event on one of its names
 abbrev pub waitedOf : List ℕ → ℕ → RuleState → ℕ → Stepped
-waitedOf heads r st time = record { state = st; standing = dueOf (planOf (getD heads r 0)) (st .end) time }
+waitedOf table r st time = record { state = st; standing = dueOf (limitIn (getD table (limitAt r) 0)) (st .end) time }
 
-unfoldable pub ruleOf : Tables → ℕ → ℕ → RuleState → ℕ → ℕ → Stepped
-ruleOf b concerned r st name time = cond (member concerned r) (actedOf b r st name time) (waitedOf (b .heads) r st time)
+unfoldable pub ruleOf : List ℕ → ℕ → ℕ → RuleState → ℕ → ℕ → Stepped
+ruleOf table concerned r st name time = cond (member concerned r) (actOf table r st name time) (waitedOf table r st time)
 
 abbrev pub isBroken : ℕ → Bool
 isBroken k = eqb k 3
@@ -42,13 +40,13 @@ pub record Pass : Type 0 where
   pub opens : ℕ
   pub dues : ℕ
 
-module _ (b : Tables) (concerned opens dues : ℕ) (old : List RuleState) (name time : ℕ) where
+module _ (table : List ℕ) (concerned opens dues : ℕ) (old : List RuleState) (name time : ℕ) where
   -- the rules that are looked at
   abbrev pub touched : ℕ → Bool
   touched r = member concerned r || member dues r
 
   abbrev pub stepOf : ℕ → RuleState → Stepped
-  stepOf r st = ruleOf b concerned r st name time
+  stepOf r st = ruleOf table concerned r st name time
 
   abbrev pub standingAt : ℕ → ℕ
   standingAt r = stepOf r (getD old r noState) .standing
@@ -65,12 +63,12 @@ module _ (b : Tables) (concerned opens dues : ℕ) (old : List RuleState) (name 
   abbrev pub dueAt : ℕ → Bool
   dueAt r = touched r && isDue (standingAt r)
 
-unfoldable pub passOf : Tables → ℕ → ℕ → ℕ → List RuleState → ℕ → ℕ → Pass
-passOf b concerned opens dues old name time = record {
-  rules = mapN (stateAt b concerned opens dues old name time) 0 16 old;
-  broken = maskN (brokenAt b concerned opens dues old name time) 16;
-  opens = maskN (openAt b concerned opens dues old name time) 16;
-  dues = maskN (dueAt b concerned opens dues old name time) 16;
+unfoldable pub passOf : List ℕ → ℕ → ℕ → ℕ → List RuleState → ℕ → ℕ → Pass
+passOf table concerned opens dues old name time = record {
+  rules = mapN (stateAt table concerned opens dues old name time) 0 16 old;
+  broken = maskN (brokenAt table concerned opens dues old name time) 16;
+  opens = maskN (openAt table concerned opens dues old name time) 16;
+  dues = maskN (dueAt table concerned opens dues old name time) 16;
 }
 
 -- ---- three masks in one word
@@ -102,7 +100,7 @@ pub record Notes (noted who : ℕ) (stands : ℕ → ℕ) (all : ℕ) : Type 0 w
 
 -- the rules of `who` held to their deadlines
 abbrev pub Waits : List ℕ → ℕ → ℕ → List RuleState → ℕ → Type 0
-Waits heads who time old all = Notes 0 who (λ k. waitedOf heads k (getD old k noState) time .standing) all
+Waits table who time old all = Notes 0 who (λ k. waitedOf table k (getD old k noState) time .standing) all
 
 -- the three masks of a word, and the open rules that are left
 pub record Tells (all left : ℕ) (p : Masks) : Type 0 where
@@ -120,15 +118,15 @@ pub record Steps (s : Stepped) (r : ℕ) (before : List ℕ) (standing : ℕ) (a
   pub moves : length before ≡ 34 → rulesIn after ≡ set (rulesIn before) r (s .state)
 
 -- the rules of `who` step
-abbrev pub stepsAt : Tables → ℕ → ℕ → ℕ → ℕ → RuleState → RuleState
-stepsAt b who name time k st = cond (member who k) (actedOf b k st name time .state) st
+abbrev pub stepsAt : List ℕ → ℕ → ℕ → ℕ → ℕ → RuleState → RuleState
+stepsAt table who name time k st = cond (member who k) (actOf table k st name time .state) st
 
-pub record StepsAll (b : Tables) (noted who name time : ℕ) (before : List ℕ) (all : ℕ) (after : List ℕ) : Type 0 where
+pub record StepsAll (table : List ℕ) (noted who name time : ℕ) (before : List ℕ) (all : ℕ) (after : List ℕ) : Type 0 where
   pub long : length before ≡ 34 → length after ≡ 34
-  pub moves : length before ≡ 34 → rulesIn after ≡ mapN (stepsAt b who name time) 0 16 (rulesIn before)
-  pub notes : length before ≡ 34 → Notes noted who (λ k. actedOf b k (getD (rulesIn before) k noState) name time .standing) all
+  pub moves : length before ≡ 34 → rulesIn after ≡ mapN (stepsAt table who name time) 0 16 (rulesIn before)
+  pub notes : length before ≡ 34 → Notes noted who (λ k. actOf table k (getD (rulesIn before) k noState) name time .standing) all
 
 -- all of them
-pub record Passes (b : Tables) (concerned opens dues name time : ℕ) (before : List ℕ) (p : Masks) (after : List ℕ) : Type 0 where
+pub record Passes (table : List ℕ) (concerned opens dues name time : ℕ) (before : List ℕ) (p : Masks) (after : List ℕ) : Type 0 where
   pub long : length before ≡ 34 → length after ≡ 34
-  pub passes : length before ≡ 34 → record { rules = rulesIn after; broken = p .broken; opens = p .opens; dues = p .dues } ≡ passOf b concerned opens dues (rulesIn before) name time
+  pub passes : length before ≡ 34 → record { rules = rulesIn after; broken = p .broken; opens = p .opens; dues = p .dues } ≡ passOf table concerned opens dues (rulesIn before) name time

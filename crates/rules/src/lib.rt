@@ -1,10 +1,11 @@
-// The sixteen rules at one observation (document 01, "Observing"): the monitor's 34 words are lent and changed in place, and the book's arrays are lent by reference. Only the words of
+// The sixteen rules at one observation (document 01, "Observing"): the monitor's 34 words are lent and changed in place, and the book's table is lent by reference. Only the words of
 // the rules that the observation concerns are read or written, and the state of each goes by value.
 ghost use mathlib.Core.Path.{_≡_};
-ghost use Prim.Native.Nat.{_<_};
+ghost use Prim.Native.Nat.{ℕ, _<_};
 ghost use lib.ListN.{getD};
+ghost use Rattle.step.specs.Steps.{actOf};
 ghost use Rattle.words.specs.Words.{noState, rulesIn};
-ghost use Rattle.rules.specs.Pass.{marksOf, actedOf, waitedOf, Marks, Steps, Waits, StepsAll, Tells, Passes};
+ghost use Rattle.rules.specs.Pass.{marksOf, waitedOf, Marks, Steps, Waits, StepsAll, Tells, Passes};
 
 // ---- three masks in one word
 
@@ -36,72 +37,59 @@ fn marked(all: u64, r: usize, standing: u8) -> u64
 // ---- one rule
 
 // Rule r, which has the name, steps; how it then stands.
-fn stepped<'a>(
-    heads: &'a [u64; 16],
-    fragments: &'a [u16; 256],
-    names: &'a [u64; 256],
-    ranges: &'a [u64; 2048],
-    m: &mut [u64; 34],
-    r: usize,
-    name: u8,
-    time: u32,
-) -> u8
+fn stepped(table: &[u64; 1104], m: &mut [u64; 34], r: usize, name: u8, time: u32) -> u8
     requires { ⌜ r < 16 ⌝ }
-    ensures { λ k. ⌜ Steps (actedOf (record { heads = now (heads .entry); fragments = now (fragments .entry); names = now (names .entry); ranges = now (ranges .entry) }) r (getD (rulesIn (now (m .entry))) r noState) name time) r (now (m .entry)) k (now (m .exit)) ⌝ }
+    ensures { λ k. ⌜ Steps (actOf (now (table .entry)) r (getD (rulesIn (now (m .entry))) r noState) name time) r (now (m .entry)) k (now (m .exit)) ⌝ }
 {
-    let p = deadline::plan_of(heads[r]);
     let was = words::load(m, r);
-    let s = step::act(fragments, names, ranges, r, p, was, name, time);
+    let s = step::act(table, r, was, name, time);
     let st = s.state;
     words::store(m, r, st);
     s.standing
 }
 
 // How rule r, whose deadline runs, stands at a time. Its state stays.
-fn waited(heads: &[u64; 16], m: &[u64; 34], r: usize, time: u32) -> u8
+fn waited(table: &[u64; 1104], m: &[u64; 34], r: usize, time: u32) -> u8
     requires { ⌜ r < 16 ⌝ }
-    ensures { λ k. ⌜ k ≡ waitedOf (now (heads .entry)) r (getD (rulesIn (now (m .entry))) r noState) time .standing ⌝ }
+    ensures { λ k. ⌜ k ≡ waitedOf (now (table .entry)) r (getD (rulesIn (now (m .entry))) r noState) time .standing ⌝ }
 {
-    let p = deadline::plan_of(heads[r]);
-    deadline::due(p, words::end_of(m, r), time)
+    let limit = tables::limit_in(table[64 + r]);
+    deadline::due(limit, words::end_of(m, r), time)
 }
 
 // ---- the rules of a mask, one by one
 
 // Each rule is held to its deadline.
-fn all_waited(heads: &[u64; 16], m: &[u64; 34], who: u16, time: u32) -> u64
-    ensures { λ all. ⌜ Waits (now (heads .entry)) who time (rulesIn (now (m .entry))) all ⌝ }
+fn all_waited(table: &[u64; 1104], m: &[u64; 34], who: u16, time: u32) -> u64
+    ensures { λ all. ⌜ Waits (now (table .entry)) who time (rulesIn (now (m .entry))) all ⌝ }
 {
     let mut all = 0u64;
     let mut todo = who;
     while 0 < todo {
         let r = masks::lowest(todo);
         todo = masks::rest(todo);
-        all = marked(all, r, waited(heads, m, r, time));
+        all = marked(all, r, waited(table, m, r, time));
     }
     all
 }
 
 // Each rule steps; its standing goes to those noted before.
-fn all_stepped<'a>(
-    heads: &'a [u64; 16],
-    fragments: &'a [u16; 256],
-    names: &'a [u64; 256],
-    ranges: &'a [u64; 2048],
+fn all_stepped(
+    table: &[u64; 1104],
     m: &mut [u64; 34],
     noted: u64,
     who: u16,
     name: u8,
     time: u32,
 ) -> u64
-    ensures { λ all. ⌜ StepsAll (record { heads = now (heads .entry); fragments = now (fragments .entry); names = now (names .entry); ranges = now (ranges .entry) }) noted who name time (now (m .entry)) all (now (m .exit)) ⌝ }
+    ensures { λ all. ⌜ StepsAll (now (table .entry)) noted who name time (now (m .entry)) all (now (m .exit)) ⌝ }
 {
     let mut all = noted;
     let mut todo = who;
     while 0 < todo {
         let r = masks::lowest(todo);
         todo = masks::rest(todo);
-        let k = stepped(heads, fragments, names, ranges, m, r, name, time);
+        let k = stepped(table, m, r, name, time);
         all = marked(all, r, k);
     }
     all
@@ -125,13 +113,18 @@ fn told(all: u64, left: u16) -> Masks
     }
 }
 
-// The rules that have the name step, and those whose deadline runs are held to it; each other rule stays as it is, open if it was open. An observation that concerns no rule, a clock
-// reading or an event on a name that no rule has, ends before anything that steps a rule.
-pub fn looked<'a>(
-    heads: &'a [u64; 16],
-    fragments: &'a [u16; 256],
-    names: &'a [u64; 256],
-    ranges: &'a [u64; 2048],
+// An observation that concerns no rule, a clock reading or an event on a name that no rule has: the rules whose deadline runs are held to it, and no rule's state changes.
+pub fn held(table: &[u64; 1104], m: &[u64; 34], opens: u16, dues: u16, time: u32) -> Masks
+    ensures { λ p. ⌜ ((name : ℕ) → Passes (now (table .entry)) 0 opens dues name time (now (m .entry)) p (now (m .entry))) ⌝ }
+{
+    let all = all_waited(table, m, dues, time);
+    told(all, masks::without(opens, dues))
+}
+
+// The rules that have the name step, and those whose deadline runs are held to it; each other rule stays as it is, open if it was open. An observation that concerns no rule ends before
+// anything that steps one.
+pub fn looked(
+    table: &[u64; 1104],
     m: &mut [u64; 34],
     concerned: u16,
     opens: u16,
@@ -139,23 +132,12 @@ pub fn looked<'a>(
     name: u8,
     time: u32,
 ) -> Masks
-    ensures { λ p. ⌜ Passes (record { heads = now (heads .entry); fragments = now (fragments .entry); names = now (names .entry); ranges = now (ranges .entry) }) concerned opens dues name time (now (m .entry)) p (now (m .exit)) ⌝ }
+    ensures { λ p. ⌜ Passes (now (table .entry)) concerned opens dues name time (now (m .entry)) p (now (m .exit)) ⌝ }
 {
     if concerned == 0 {
-        let held = all_waited(heads, m, dues, time);
-        return told(held, masks::without(opens, dues));
+        return held(table, m, opens, dues, time);
     }
-    let held = all_waited(heads, m, masks::without(dues, concerned), time);
-    let all = all_stepped(
-        heads,
-        fragments,
-        names,
-        ranges,
-        m,
-        held,
-        concerned,
-        name,
-        time,
-    );
+    let waits = all_waited(table, m, masks::without(dues, concerned), time);
+    let all = all_stepped(table, m, waits, concerned, name, time);
     told(all, masks::without(opens, masks::union(concerned, dues)))
 }

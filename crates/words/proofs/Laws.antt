@@ -1,48 +1,15 @@
 -- What storing in a monitor's words does to the monitor that they hold: a rule's two words change that rule's state, and the last two words change none.
 -- Assumes nothing.
-use mathlib.Core.Path.{_≡_, refl, sym, ap, ap₂, _∙_}
-use mathlib.Core.List.{List, [], _∷_}
-use Prim.Native.Nat.{ℕ, suc, _+_, _*_, _%_, _/_, _<_, _≤_}
+use mathlib.Core.Path.{_≡_, sym, ap, ap₂, _∙_}
+use mathlib.Core.List.{List}
+use Prim.Native.Nat.{ℕ, _+_, _*_, _%_, _/_, _<_, _≤_}
 use native.Mathlib.Omega.{arith}
 use lib.ListN.{length, getD, set, replicate, length-set}
 use lib.Seq.{getD-set-same, getD-set-other}
 use Rattle.step.specs.declared.RuleState.{RuleState}
 use Rattle.fragment.specs.Upto.{mapN, length-mapN}
-use Rattle.fragment.specs.Fragments.{digits}
-use Rattle.words.specs.Words.{statesIn, stateIn, stateAt, noState, ruleFrom, rulesIn, heldBy, Stores, Holds}
+use Rattle.words.specs.Words.{stateIn, stateAt, noState, ruleFrom, rulesIn, heldBy, Stores, Holds}
 use Rattle.words.proofs.Places.{mapN-within, set-mapN, getD-mapN}
-
--- ---- eight digits
-
-eight : (x : List ℕ) → length x ≡ 8 → (getD x 0 0 ∷ getD x 1 0 ∷ getD x 2 0 ∷ getD x 3 0 ∷ getD x 4 0 ∷ getD x 5 0 ∷ getD x 6 0 ∷ getD x 7 0 ∷ []) ≡ x
-eight (a ∷ b ∷ c ∷ d ∷ e ∷ f ∷ g ∷ h ∷ []) p = refl
-eight [] p = absurd (omega (arith, p))
-eight (a ∷ []) p = absurd (omega (arith, p))
-eight (a ∷ b ∷ []) p = absurd (omega (arith, p))
-eight (a ∷ b ∷ c ∷ []) p = absurd (omega (arith, p))
-eight (a ∷ b ∷ c ∷ d ∷ []) p = absurd (omega (arith, p))
-eight (a ∷ b ∷ c ∷ d ∷ e ∷ []) p = absurd (omega (arith, p))
-eight (a ∷ b ∷ c ∷ d ∷ e ∷ f ∷ []) p = absurd (omega (arith, p))
-eight (a ∷ b ∷ c ∷ d ∷ e ∷ f ∷ g ∷ []) p = absurd (omega (arith, p))
-eight (a ∷ b ∷ c ∷ d ∷ e ∷ f ∷ g ∷ h ∷ i ∷ x) p = absurd (omega (arith, p))
-
-digits-cons : (n a above w : ℕ) → a < 256 → w ≡ a + 256 * above → digits (suc n) w ≡ a ∷ digits n above
-digits-cons n a above w h e =
-    let low : w % 256 ≡ a = omega arith in
-    let high : w / 256 ≡ above = omega arith in
-    λ i. low i ∷ digits n (high i)
-
-pub states-back : (x : List ℕ) → length x ≡ 8
-    → getD x 0 0 < 256 → getD x 1 0 < 256 → getD x 2 0 < 256 → getD x 3 0 < 256 → getD x 4 0 < 256 → getD x 5 0 < 256 → getD x 6 0 < 256 → getD x 7 0 < 256 → (w : ℕ)
-    → w ≡ getD x 0 0 + 256 * (getD x 1 0 + 256 * (getD x 2 0 + 256 * (getD x 3 0 + 256 * (getD x 4 0 + 256 * (getD x 5 0 + 256 * (getD x 6 0 + 256 * getD x 7 0))))))
-    → statesIn w ≡ x
-states-back x l h0 h1 h2 h3 h4 h5 h6 h7 w e =
-    digits-cons 7 _ _ w h0 e ∙ ap (at 0) (digits-cons 6 _ _ _ h1 refl ∙ ap (at 1) (digits-cons 5 _ _ _ h2 refl ∙ ap (at 2) (digits-cons 4 _ _ _ h3 refl
-    ∙ ap (at 3) (digits-cons 3 _ _ _ h4 refl ∙ ap (at 4) (digits-cons 2 _ _ _ h5 refl ∙ ap (at 5) (digits-cons 1 _ _ _ h6 refl ∙ ap (at 6) (digits-cons 0 _ 0 _ h7 (omega arith))))))))
-    ∙ eight x l
-  where
-    at : ℕ → List ℕ → List ℕ
-    at i t = getD x i 0 ∷ t
 
 -- ---- the rules
 

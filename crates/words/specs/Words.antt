@@ -15,16 +15,16 @@ use Rattle.fragment.specs.Fragments.{zeros, digits}
 abbrev pub statesIn : ℕ → List ℕ
 statesIn word = digits 8 word
 
--- the state of a rule: in the second word its fragment number, a byte; its count, two bytes from the third on; and the end time of P, the upper half
+-- the state of a rule: in the second word its fragment number, a byte; the name whose range counts, the next byte; its count, the next two; and the end time of P, the upper half
 unfoldable pub stateIn : ℕ → ℕ → RuleState
-stateIn states place = record { fragment = place % 256; states = statesIn states; count = place / 65536 % 65536; end = place / 4294967296 % 4294967296 }
+stateIn states place = record { fragment = place % 256; current = place / 256 % 256; states = statesIn states; count = place / 65536 % 65536; end = place / 4294967296 % 4294967296 }
 
 abbrev pub stateAt : List ℕ → ℕ → RuleState
 stateAt words r = stateIn (getD words (2 * r) 0) (getD words (2 * r + 1) 0)
 
 -- a state for numbers past the sixteenth, which are not looked at
 abbrev pub noState : RuleState
-noState = record { fragment = 0; states = zeros; count = 0; end = 0 }
+noState = record { fragment = 0; current = 0; states = zeros; count = 0; end = 0 }
 
 abbrev pub ruleFrom : List ℕ → ℕ → RuleState → RuleState
 ruleFrom words r st = stateAt words r

@@ -1,33 +1,19 @@
 // The memory of a monitor: 34 words, which a caller lends and which are changed in place. For each rule "its fragment number, eight recogniser states, one count and the end time
-// of P", and then the number taken, the latest time, the verdict and its masks. A rule's state goes in and out by value. Every word is taken, and a rule's number is reduced by a
-// remainder, so that nothing is asked of either.
+// of P", beside them the name whose range counts, and then the number taken, the latest time, the verdict and its masks. A rule's state goes in and out by value. Every word is taken,
+// and a rule's number is reduced by a remainder, so that nothing is asked of either.
 ghost use mathlib.Core.Path.{_≡_};
-ghost use Prim.Native.Nat.{_%_, _/_, _<_};
+ghost use Prim.Native.Nat.{_%_, _/_};
 ghost use lib.ListN.{length, getD};
-ghost use Rattle.words.specs.Words.{statesIn, stateIn, noState, rulesIn, takenIn, latestIn, verdictNumberIn, maskIn, duesIn, heldBy, Stores, Holds};
+ghost use Rattle.words.specs.Words.{stateIn, noState, rulesIn, takenIn, latestIn, verdictNumberIn, maskIn, duesIn, heldBy, Stores, Holds};
 use step::RuleState;
 
 // ---- a rule's two words
 
-fn wide(x: u8) -> u64
-    ensures { λ r. ⌜ (r ≡ x) × (r < 256) ⌝ }
+// The word of a fragment number, a current name, a count and an end time of P.
+fn place_word(fragment: u8, current: u8, count: u16, end: u32) -> u64
+    ensures { λ r. ⌜ (r % 256 ≡ fragment) × (r / 256 % 256 ≡ current) × (r / 65536 % 65536 ≡ count) × (r / 4294967296 % 4294967296 ≡ end) ⌝ }
 {
-    x as u64
-}
-
-// The word of eight recogniser states.
-fn states_word(x: [u8; 8]) -> u64
-    ensures { λ r. ⌜ statesIn r ≡ x ⌝ }
-{
-    let high = wide(x[4]) + 256 * (wide(x[5]) + 256 * (wide(x[6]) + 256 * wide(x[7])));
-    wide(x[0]) + 256 * (wide(x[1]) + 256 * (wide(x[2]) + 256 * (wide(x[3]) + 256 * high)))
-}
-
-// The word of a fragment number, a count and an end time of P.
-fn place_word(fragment: u8, count: u16, end: u32) -> u64
-    ensures { λ r. ⌜ (r % 256 ≡ fragment) × (r / 65536 % 65536 ≡ count) × (r / 4294967296 % 4294967296 ≡ end) ⌝ }
-{
-    fragment as u64 + 65536 * (count as u64) + 4294967296 * (end as u64)
+    fragment as u64 + 256 * (current as u64) + 65536 * (count as u64) + 4294967296 * (end as u64)
 }
 
 // The state that two words hold.
@@ -37,6 +23,7 @@ fn state_in(states: u64, place: u64) -> RuleState
     let x = fragment::spread(states);
     RuleState {
         fragment: (place % 256) as u8,
+        current: (place / 256 % 256) as u8,
         states: x,
         count: (place / 65536 % 65536) as u16,
         end: (place / 4294967296 % 4294967296) as u32,
@@ -65,8 +52,8 @@ pub fn store(m: &mut [u64; 34], r: usize, st: RuleState)
 {
     let k = 2 * (r % 16);
     let x = st.states;
-    m[k] = states_word(x);
-    m[k + 1] = place_word(st.fragment, st.count, st.end);
+    m[k] = fragment::packed(x);
+    m[k + 1] = place_word(st.fragment, st.current, st.count, st.end);
 }
 
 // ---- the monitor's own two words

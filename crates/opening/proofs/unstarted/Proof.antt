@@ -1,52 +1,34 @@
--- `opening::unstarted` meets its contract. After r turns the first r rules stand before their first fragment, and the last two words are 0. The measure is what is left of the 16. Assumes nothing.
+-- `opening::unstarted` meets its contract. After r turns the first r rules are fresh, and the last two words are 0. The measure is what is left of the 16. Assumes nothing.
 use mathlib.Core.Path.{_≡_, refl, _∙_}
 use mathlib.Core.List.{List}
-use Prim.Native.Nat.{_%_, _≤_, _<_, _-_}
+use Prim.Native.Nat.{ℕ, _%_, _≤_, _<_, _-_}
 use native.Mathlib.Omega.{arith}
-use denote.Ref.{now}
 use lib.ListN.{length, getD, replicate}
 use Rattle.step.specs.declared.RuleState.{RuleState}
 use Rattle.fragment.specs.Upto.{mapN, mapN-more}
 use Rattle.words.specs.Words.{stateIn, noState, rulesIn}
-use Rattle.opening.specs.Fresh.{freshRule, freshOf}
+use Rattle.opening.specs.Fresh.{freshState, freshHeld}
 use borrow.Author.Needs.{needs}
 use Rattle.opening.proofs.unstarted.Statement.{statement}
 use Rattle.opening.proofs.unstarted.Tie as tie
 
--- the rules before any of them is made
+-- the rules before any of them is made, and what each becomes
 abbrev blank : List RuleState
 blank = replicate 16 noState
 
+abbrev anew : ℕ → RuleState → RuleState
+anew r st = freshState
+
 abbrev Inv-loop : tie.InvT-loop
-Inv-loop fragments m₀ r₀ m r =
-    (r ≤ 16) × (length m ≡ 34) × (rulesIn m ≡ mapN (freshRule fragments) 0 r blank) × (getD m 32 0 ≡ 0) × (getD m 33 0 ≡ 0)
+Inv-loop st m₀ r₀ m r =
+    (r ≤ 16) × (length m ≡ 34) × (rulesIn m ≡ mapN anew 0 r blank) × (getD m 32 0 ≡ 0) × (getD m 33 0 ≡ 0)
 
 abbrev μ-loop : tie.MeasureT-loop
-μ-loop fragments m₀ r₀ m r =
-    16 - r
+μ-loop st m₀ r₀ m r = 16 - r
 
 loop-holds : tie.Need-loop-holds Inv-loop μ-loop
 unfolding rulesIn stateIn
-loop-holds c =
-    (omega arith, refl, refl, refl, refl)
-
-mul-ranges-in : tie.Need-mul-ranges-in Inv-loop μ-loop
-mul-ranges-in c = search needs
-
-mul-ranges-in-2 : tie.Need-mul-ranges-in-2 Inv-loop μ-loop
-mul-ranges-in-2 c = search needs
-
-element-copy-out-ranges-in : tie.Need-element-copy-out-ranges-in Inv-loop μ-loop
-element-copy-out-ranges-in c = search needs
-
-ranges-in-requires : tie.Need-ranges-in-requires Inv-loop μ-loop
-ranges-in-requires c κs = search needs
-
-cast-size : tie.Need-cast-size Inv-loop μ-loop
-cast-size c = search needs
-
-fresh-states-requires : tie.Need-fresh-states-requires Inv-loop μ-loop
-fresh-states-requires c κs = search needs
+loop-holds c = (omega arith, refl, refl, refl, refl)
 
 store-requires : tie.Need-store-requires Inv-loop μ-loop
 store-requires c κs = search needs
@@ -59,20 +41,19 @@ loop-less c = search needs
 
 loop-again : tie.Need-loop-again Inv-loop μ-loop
 loop-again c =
-    let turn = c .before .before .before .before .before .before .loop in
-    let a = c .before .before .before .before .before .before .before .args in
-    let e : turn .r % 16 ≡ turn .r = omega (arith, c .before .before .before .before .before .loop-test .taken) in
+    let turn = c .before .before .before .loop in
+    let e : turn .r % 16 ≡ turn .r = omega (arith, c .before .before .loop-test .taken) in
     let st = c .store .ensures (turn .inv .1) in
-    let h : turn .r < length blank = omega (arith, c .before .before .before .before .before .loop-test .taken) in (
-      omega (arith, c .before .before .before .before .before .loop-test .taken),
+    let h : turn .r < length blank = omega (arith, c .before .before .loop-test .taken) in (
+      omega (arith, c .before .before .loop-test .taken),
       st .long,
-      (st .rules ∙ rw (e, turn .inv .2, c .before .before .fresh-states .ensures, c .before .before .before .ranges-in .ensures) (mapN-more (freshRule (now (a .fragments))) (turn .r) blank noState h)),
+      (st .rules ∙ rw (e, turn .inv .2) (mapN-more anew (turn .r) blank noState h)),
       (st .rest 32 (omega arith) ∙ turn .inv .3),
       (st .rest 33 (omega arith) ∙ turn .inv .4),
     )
 
 returns : tie.Need-returns Inv-loop μ-loop
-unfolding freshOf
+unfolding freshHeld
 returns c =
     let turn = c .before .loop in
     let e : turn .r ≡ 16 = omega (arith, c .loop-test .left, turn .inv .0) in
@@ -81,18 +62,4 @@ returns c =
 pub unstarted-spec : {M : Type 1} → statement M
 unstarted-spec =
     tie.close
-    (tie.spec
-    Inv-loop
-    μ-loop
-    loop-holds
-    mul-ranges-in
-    mul-ranges-in-2
-    element-copy-out-ranges-in
-    ranges-in-requires
-    cast-size
-    fresh-states-requires
-    store-requires
-    add-r
-    loop-less
-    loop-again
-    returns)
+    (tie.spec Inv-loop μ-loop loop-holds store-requires add-r loop-less loop-again returns)

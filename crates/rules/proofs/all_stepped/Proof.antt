@@ -6,31 +6,27 @@ use Prim.Native.Nat.{ℕ}
 use native.Mathlib.Omega.{arith}
 use denote.Ref.{now}
 use lib.ListN.{length, getD}
-use Rattle.step.specs.Steps.{Tables}
+use Rattle.step.specs.Steps.{actOf}
 use Rattle.words.specs.Words.{noState, rulesIn}
 use Rattle.words.proofs.Laws.{sixteen}
-use Rattle.rules.specs.Pass.{actedOf}
 use Rattle.rules.proofs.Passing.{Stepping, stepping-start, stepping-more, stepping-end, noting-end}
 use borrow.Author.Needs.{needs}
 use Rattle.rules.proofs.all_stepped.Statement.{statement}
 use Rattle.rules.proofs.all_stepped.Tie as tie
 
-abbrev tables : (heads fragments names ranges : List ℕ) → Tables
-tables heads fragments names ranges = record { heads = heads; fragments = fragments; names = names; ranges = ranges }
-
 abbrev Inv-loop : tie.InvT-loop
-Inv-loop heads fragments names ranges m₀ noted who name time all₀ todo₀ m all todo =
-    length m₀ ≡ 34 → (length m ≡ 34) × Stepping (tables heads fragments names ranges) noted who name time (rulesIn m₀) (rulesIn m) todo all
+Inv-loop table m₀ noted who name time all₀ todo₀ m all todo =
+    length m₀ ≡ 34 → (length m ≡ 34) × Stepping table noted who name time (rulesIn m₀) (rulesIn m) todo all
 
 abbrev μ-loop : tie.MeasureT-loop
-μ-loop heads fragments names ranges m₀ noted who name time all₀ todo₀ m all todo = todo
+μ-loop table m₀ noted who name time all₀ todo₀ m all todo = todo
 
 loop-holds : tie.Need-loop-holds Inv-loop μ-loop
 loop-holds c =
     λ l.
     let a = c .args in (
       l,
-      stepping-start (tables (now (a .heads)) (now (a .fragments)) (now (a .names)) (now (a .ranges))) (a .noted) (a .who) (a .name) (a .time) (rulesIn (now (a .m))) (sixteen (now (a .m))),
+      stepping-start (now (a .table)) (a .noted) (a .who) (a .name) (a .time) (rulesIn (now (a .m))) (sixteen (now (a .m))),
     )
 
 lowest-requires : tie.Need-lowest-requires Inv-loop μ-loop
@@ -62,21 +58,21 @@ loop-again c =
     let (lm, p) = turn .before .loop .inv l in
     let st = c .before .stepped .ensures in (
       st .long lm,
-      stepping-more (tables (now (a .heads)) (now (a .fragments)) (now (a .names)) (now (a .ranges))) (a .noted) (a .who) (a .name) (a .time) (rulesIn (now (a .m)))
+      stepping-more (now (a .table)) (a .noted) (a .who) (a .name) (a .time) (rulesIn (now (a .m)))
           p (low .inside (turn .loop-test .taken)) (low .rule) (rest .rest .ensures _ (turn .loop-test .taken) low) st lm (c .marked .ensures),
     )
 
 returns : tie.Need-returns Inv-loop μ-loop
 returns c =
     let a = c .before .before .args in
-    let b = tables (now (a .heads)) (now (a .fragments)) (now (a .names)) (now (a .ranges)) in
+    let b = now (a .table) in
     let old = rulesIn (now (a .m)) in
     let inv = c .before .loop .inv in
     record {
       long = λ l. inv l .0;
       moves = λ l. stepping-end b (a .noted) (a .who) (a .name) (a .time) old (inv l .1) (omega (arith, c .loop-test .left));
       notes = λ l.
-          noting-end (a .noted) (a .who) (λ (k : ℕ). actedOf b k (getD old k noState) (a .name) (a .time) .standing) (inv l .1 .notes) (omega (arith, c .loop-test .left));
+          noting-end (a .noted) (a .who) (λ (k : ℕ). actOf b k (getD old k noState) (a .name) (a .time) .standing) (inv l .1 .notes) (omega (arith, c .loop-test .left));
     }
 
 pub all-stepped-spec : {M : Type 1} → statement M

@@ -13,17 +13,17 @@ use borrow.Author.Needs.{needs}
 use Rattle.rules.proofs.all_waited.Statement.{statement}
 use Rattle.rules.proofs.all_waited.Tie as tie
 
-abbrev stands : (heads words : List ℕ) (time k : ℕ) → ℕ
-stands heads words time k = waitedOf heads k (getD (rulesIn words) k noState) time .standing
+abbrev stands : (table words : List ℕ) (time k : ℕ) → ℕ
+stands table words time k = waitedOf table k (getD (rulesIn words) k noState) time .standing
 
 abbrev Inv-loop : tie.InvT-loop
-Inv-loop heads m who time all₀ todo₀ all todo = Noting 0 who (stands heads m time) todo all
+Inv-loop table m who time all₀ todo₀ all todo = Noting 0 who (stands table m time) todo all
 
 abbrev μ-loop : tie.MeasureT-loop
-μ-loop heads m who time all₀ todo₀ all todo = todo
+μ-loop table m who time all₀ todo₀ all todo = todo
 
 loop-holds : tie.Need-loop-holds Inv-loop μ-loop
-loop-holds c = let a = c .args in noting-start 0 (a .who) (stands (now (a .heads)) (now (a .m)) (a .time))
+loop-holds c = let a = c .args in noting-start 0 (a .who) (stands (now (a .table)) (now (a .m)) (a .time))
 
 lowest-requires : tie.Need-lowest-requires Inv-loop μ-loop
 lowest-requires c κs = search needs
@@ -50,12 +50,12 @@ loop-again c =
     let low = rest .before .lowest .ensures in
     let turn = rest .before .before in
     let a = turn .before .before .args in
-    noting-more 0 (a .who) (stands (now (a .heads)) (now (a .m)) (a .time)) (turn .before .loop .inv) (low .inside (turn .loop-test .taken)) (low .rule) (rest .rest .ensures _ (turn .loop-test .taken) low)
+    noting-more 0 (a .who) (stands (now (a .table)) (now (a .m)) (a .time)) (turn .before .loop .inv) (low .inside (turn .loop-test .taken)) (low .rule) (rest .rest .ensures _ (turn .loop-test .taken) low)
     (c .before .waited .ensures) (c .marked .ensures)
 
 returns : tie.Need-returns Inv-loop μ-loop
 returns c =
-    let a = c .before .before .args in noting-end 0 (a .who) (stands (now (a .heads)) (now (a .m)) (a .time)) (c .before .loop .inv) (omega (arith, c .loop-test .left))
+    let a = c .before .before .args in noting-end 0 (a .who) (stands (now (a .table)) (now (a .m)) (a .time)) (c .before .loop .inv) (omega (arith, c .loop-test .left))
 
 pub all-waited-spec : {M : Type 1} → statement M
 all-waited-spec = tie.close (tie.spec Inv-loop μ-loop loop-holds lowest-requires rest-requires waited-requires marked-requires loop-less loop-again returns)

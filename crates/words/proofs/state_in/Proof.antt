@@ -16,10 +16,13 @@ cast-t8 c = search needs
 cast-t11 : tie.Need-cast-t11
 cast-t11 c = search needs
 
+cast-t14 : tie.Need-cast-t14
+cast-t14 c = search needs
+
 returns : tie.Need-returns
 unfolding stateIn
 returns c =
     rw (c .spread .ensures)
 
 pub state-in-spec : {M : Type 1} → statement M
-state-in-spec = tie.close (tie.spec spread-requires cast-t5 cast-t8 cast-t11 returns)
+state-in-spec = tie.close (tie.spec spread-requires cast-t5 cast-t8 cast-t11 cast-t14 returns)

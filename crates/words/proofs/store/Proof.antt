@@ -10,8 +10,8 @@ use Rattle.words.proofs.store.Tie as tie
 mul-k : tie.Need-mul-k
 mul-k c = search needs
 
-states-word-requires : tie.Need-states-word-requires
-states-word-requires c κs = search needs
+packed-requires : tie.Need-packed-requires
+packed-requires c κs = search needs
 
 mul-m : tie.Need-mul-m
 mul-m c = search needs
@@ -37,14 +37,14 @@ returns c = λ l.
     let a = c .before .before .before .args in
     let p = c .place-word .ensures in
     stores (a .m .now) (a .r % 16) _ _ (a .st) l (omega arith)
-    (λ i. record { fragment = p .0 i; states = c .before .states-word .ensures i; count = p .1 i; end = p .2 i })
+    (λ i. record { fragment = p .0 i; current = p .1 i; states = c .before .packed .ensures .1 i; count = p .2 i; end = p .3 i })
 
 pub store-spec : {M : Type 1} → statement M
 store-spec =
     tie.close
     (tie.spec
     mul-k
-    states-word-requires
+    packed-requires
     mul-m
     element-write-m
     place-word-requires
