@@ -4,27 +4,28 @@
 use mathlib.Core.Path.{_≡_, refl, sym, _∙_, ap}
 use mathlib.Core.Bool.{Bool, true, false, cond, not, _&&_, _||_}
 use mathlib.Core.List.{List}
-use Prim.Native.Nat.{ℕ, zero, suc, _+_, _*_, _%_, _≤_, _<_}
+use Prim.Native.Nat.{ℕ, zero, suc, _+_, _≤_}
 use native.Mathlib.Omega.{arith}
-use lib.Dec.{leb, eqb}
-use lib.ListN.{getD}
+use lib.Dec.{T, eqb}
+use lib.ListN.{getD, set}
 use Rattle.names.specs.Names.{member}
-use Rattle.pattern.specs.Meaning.{Rule, broken, whole, open′}
+use Rattle.pattern.specs.Lists.{isIn}
+use Rattle.pattern.specs.Meaning.{Rule, namesOf, broken, whole, open′}
 use Rattle.pattern.specs.Judge as J
 use Rattle.pattern.specs.Model.{step, statusAt, inTime}
 use Rattle.pattern.specs.Model as M
 use Rattle.pattern.proofs.Basics.{zero-one}
 use Rattle.step.specs.declared.RuleState.{RuleState}
-use Rattle.fragment.specs.declared.Turned.{Turned}
 use Rattle.step.specs.declared.Stepped.{Stepped}
-use Rattle.deadline.specs.declared.Plan.{Plan}
-use Rattle.fragment.specs.Fragments.{Ranges, completeOf, growsOf, turnOf}
-use Rattle.deadline.specs.Plans.{planOf, dueOf, pastOf, followsOf, seenOf}
-use Rattle.step.specs.Steps.{Tables, actOf, runsOf, standingOf, settledOf, rangesOf, beginOf, stayOf}
-use Rattle.step.specs.Decode.{decode}
+use Rattle.tables.specs.Cells.{fragmentIn, indexIn, roleIn, beforeIn, limitAt, limitIn, HoldsRule}
+use Rattle.fragment.specs.Fragments.{begunOf, completeOf, growsOf}
+use Rattle.deadline.specs.Deadlines.{dueOf, pastOf, lateOf}
+use Rattle.step.specs.Steps.{brokenOf, standingOf, stoodOf, beginOf, movedBy, longerOf, otherOf, passOf, cellIn, actOf}
+use Rattle.step.specs.Shows.{Sound, Shows}
+use Rattle.step.proofs.Roles.{statusIn}
 use Rattle.step.proofs.Status.{running, time-alone, running-is}
-use Rattle.step.proofs.Links.{statusIn, Rules, Stands, acts, past-at}
-use Rattle.rules.specs.Pass.{actedOf, ruleOf, isBroken, isOpen, isDue}
+use Rattle.step.proofs.Links.{acts, held-to}
+use Rattle.rules.specs.Pass.{ruleOf, isBroken, isOpen, isDue}
 
 -- ---- a standing is one of four
 
@@ -36,37 +37,41 @@ cond-stepped : (b : Bool) (x y : Stepped) → x .standing ≤ 3 → y .standing 
 cond-stepped true x y p q = p
 cond-stepped false x y p q = q
 
-due-few : (p : Plan) (end time : ℕ) → dueOf p end time ≤ 3
-unfolding dueOf
-due-few p end time = cond-few (pastOf p end time) 3 2 (omega arith) (omega arith)
+stood-few : (cell name : ℕ) (states : List ℕ) (count end time : ℕ) → stoodOf cell name states count end time .standing ≤ 3
+unfolding stoodOf standingOf
+stood-few cell name states count end time =
+    cond-few (eqb (roleIn cell) 0) 1 _ (omega arith) (cond-few (eqb (roleIn cell) 2) 2 _ (omega arith)
+    (cond-few (eqb (roleIn cell) 1) _ _ (cond-few (completeOf cell states count) _ 1 (cond-few (growsOf cell states count) 1 2 (omega arith) (omega arith)) (omega arith))
+    (cond-few (completeOf cell states count) 0 _ (omega arith) (cond-few (eqb (roleIn cell) 3) 2 1 (omega arith) (omega arith)))))
 
-standing-few : (p : Plan) (f : ℕ) (complete grows : Bool) (end time : ℕ) → standingOf p f complete grows end time ≤ 3
-unfolding standingOf
-standing-few p f complete grows end time = cond-few (complete && leb (p .last) (f + 1)) 0 _ (omega arith) (cond-few (runsOf p f complete grows) (dueOf p end time) 1 (due-few p end time) (omega arith))
-
-settled-few : (g : Ranges) (p : Plan) (st : RuleState) (time : ℕ) → settledOf g p st time .standing ≤ 3
-unfolding settledOf
-settled-few g p st time = standing-few p (st .fragment) (completeOf g (st .states) (st .count)) (growsOf g (st .states) (st .count)) (st .end) time
-
-begin-few : (g : Ranges) (p : Plan) (f end name time : ℕ) → beginOf g p f end name time .standing ≤ 3
+begin-few : (cell name end time : ℕ) → beginOf cell name end time .standing ≤ 3
 unfolding beginOf
-begin-few g p f end name time = cond-stepped (eqb (p .kind) 0 && leb (p .first) f) _ _ (omega arith) (settled-few g p _ time)
+begin-few cell name end time = cond-stepped (eqb (roleIn cell) 5) _ _ (omega arith) (stood-few cell name (begunOf cell) 1 end time)
 
-stay-few : (g : Ranges) (p : Plan) (st : RuleState) (f : ℕ) (x : Turned) (time : ℕ) → stayOf g p st f x time .standing ≤ 3
-unfolding stayOf
-stay-few g p st f x time = cond-stepped (x .bad) _ _ (omega arith) (settled-few g p _ time)
+longer-few : (cell : ℕ) (st : RuleState) (name time : ℕ) → longerOf cell st name time .standing ≤ 3
+unfolding longerOf
+longer-few cell st name time = cond-stepped (eqb (movedBy cell 0 3 (st .count)) 5) (brokenOf st) _ (omega arith) (stood-few cell name (st .states) (st .count + 1) (st .end) time)
 
-act-few : (fragments names ranges : List ℕ) (r : ℕ) (p : Plan) (st : RuleState) (name time : ℕ) → actOf fragments names ranges r p st name time .standing ≤ 3
+other-few : (c d : ℕ) (st : RuleState) (name time : ℕ) → otherOf c d st name time .standing ≤ 3
+unfolding otherOf
+other-few c d st name time =
+    let own : ℕ = movedBy c 0 (getD (st .states) (indexIn c) 0) (st .count) in
+    let old : ℕ = movedBy d 1 3 (st .count) in
+    cond-stepped (eqb own 5 || eqb old 5) (brokenOf st) _ (omega arith) (stood-few c name (set (set (st .states) (indexIn d) old) (indexIn c) own) 1 (st .end) time)
+
+pass-few : (c d : ℕ) (st : RuleState) (name time : ℕ) → passOf c d st name time .standing ≤ 3
+unfolding passOf
+pass-few c d st name time = cond-stepped (eqb (beforeIn c) (st .fragment) && completeOf d (st .states) (st .count)) _ (brokenOf st) (begin-few c name (st .end) time) (omega arith)
+
+act-few : (table : List ℕ) (r : ℕ) (st : RuleState) (name time : ℕ) → actOf table r st name time .standing ≤ 3
 unfolding actOf
-act-few fragments names ranges r p st name time =
-    let f : ℕ = st .fragment % 16 in
-    let next : ℕ = followsOf f (p .last) % 16 in
-    let here : Bool = member (getD names (16 * r + f) 0) name in
-    let there : Bool = member (getD names (16 * r + next) 0) name in
-    let g : Ranges = rangesOf fragments ranges (16 * r + f) in
-    let x : Turned = turnOf g name (seenOf p f next here there (st .end) time) (st .states) (st .count) in
-    cond-stepped (eqb (p .kind) 0 && leb (p .first) f) (record { state = st; standing = 0 }) _ (omega arith)
-    (cond-stepped (not here && x .idle) (beginOf (rangesOf fragments ranges (16 * r + next)) p next (st .end) name time) (stayOf g p st f x time) (begin-few (rangesOf fragments ranges (16 * r + next)) p next (st .end) name time) (stay-few g p st f x time))
+act-few table r st name time =
+    let c : ℕ = cellIn table r name in
+    let d : ℕ = cellIn table r (st .current) in
+    cond-stepped (eqb (st .count) 0) _ _ (cond-stepped (eqb (fragmentIn c) 0) _ (brokenOf st) (begin-few c name (st .end) time) (omega arith))
+    (cond-stepped (eqb (roleIn d) 5) (record { state = st; standing = 0 }) _ (omega arith)
+    (cond-stepped (lateOf c (limitIn (getD table (limitAt r) 0)) (st .end) time) (brokenOf st) _ (omega arith)
+    (cond-stepped (eqb (fragmentIn c) (st .fragment)) _ _ (cond-stepped (eqb name (st .current)) _ _ (longer-few c st name time) (other-few c d st name time)) (pass-few c d st name time))))
 
 -- ---- what a standing says of a status
 
@@ -87,41 +92,35 @@ open-says (suc (suc (suc (suc k)))) h = absurd (omega arith)
 
 -- ---- one rule
 
--- what is to be shown of a rule: its new state, and the bits of the three masks
+-- what is to be shown of a rule: its new state, unless it breaks, and the bits of the three masks
 pub record Ruled (rule : Rule) (time : ℕ) (S : M.RuleState) (st : RuleState) (brokenBit openBit dueBit : Bool) : Type 0 where
-  pub state : decode st ≡ S
-  pub stands : Stands rule st
+  pub shows : brokenBit ≡ false → Shows rule st S
   pub broken′ : brokenBit ≡ J.isBroken (statusAt rule S time)
   pub open″ : openBit ≡ J.isOpen (statusAt rule S time)
   pub due : brokenBit ≡ false → dueBit ≡ running rule S
 
-module _ (b : Tables) (concerned r : ℕ) (rule : Rule) (h : Rules (b .fragments) (b .names) (b .ranges) r (planOf (getD (b .heads) r 0)) rule) (st : RuleState) (w : Stands rule st) (name time : ℕ) where
-  abbrev S : M.RuleState
-  S = decode st
-
+module _ (table : List ℕ) (concerned r : ℕ) (rule : Rule) (h : HoldsRule table r rule) (sound : Sound rule) (st : RuleState) (S : M.RuleState) (w : Shows rule st S) (name time : ℕ) where
   -- a rule that has the name
-  steps : name < 64 → member concerned r ≡ true → (let s : Stepped = ruleOf b concerned r st name time in Ruled rule time (step rule S (record { name = name; time = time })) (s .state) (isBroken (s .standing)) (isOpen (s .standing)) (isDue (s .standing)))
-  unfolding ruleOf actedOf
+  steps : T (isIn name (namesOf rule)) → member concerned r ≡ true → (let s : Stepped = ruleOf table concerned r st name time in Ruled rule time (step rule S (record { name = name; time = time })) (s .state) (isBroken (s .standing)) (isOpen (s .standing)) (isDue (s .standing)))
+  unfolding ruleOf
   steps named m =
-      let l = acts h time st w name named in
-      let few = act-few (b .fragments) (b .names) (b .ranges) r (planOf (getD (b .heads) r 0)) st name time in
+      let l = acts h sound time st S w name named in
+      let few = act-few table r st name time in
       rw m (record {
-        state = l .state;
-        stands = l .stands;
-        broken′ = broken-says (actOf (b .fragments) (b .names) (b .ranges) r (planOf (getD (b .heads) r 0)) st name time .standing) ∙ ap J.isBroken (l .status);
-        open″ = open-says (actOf (b .fragments) (b .names) (b .ranges) r (planOf (getD (b .heads) r 0)) st name time .standing) few ∙ ap J.isOpen (l .status);
+        shows = l .shows;
+        broken′ = broken-says (actOf table r st name time .standing) ∙ ap J.isBroken (l .status);
+        open″ = open-says (actOf table r st name time .standing) few ∙ ap J.isOpen (l .status);
         due = l .due;
       })
 
   -- a rule whose deadline runs
-  waits : member concerned r ≡ false → running rule S ≡ true → (let s : Stepped = ruleOf b concerned r st name time in Ruled rule time S (s .state) (isBroken (s .standing)) (isOpen (s .standing)) (isDue (s .standing)))
+  waits : member concerned r ≡ false → running rule S ≡ true → (let s : Stepped = ruleOf table concerned r st name time in Ruled rule time S (s .state) (isBroken (s .standing)) (isOpen (s .standing)) (isDue (s .standing)))
   unfolding ruleOf dueOf
-  waits m run = rw (m, past-at h time (st .end)) (record {
-    state = refl;
-    stands = w;
-    broken′ = held (inTime (rule .kind) (st .end) time) ∙ ap J.isBroken (sym (running-is rule (h .some) S run time));
-    open″ = opened (inTime (rule .kind) (st .end) time) ∙ ap J.isOpen (sym (running-is rule (h .some) S run time));
-    due = λ z. dues (inTime (rule .kind) (st .end) time) z ∙ sym run;
+  waits m run = rw (m, held-to h sound st S w run time) (record {
+    shows = λ z. w;
+    broken′ = held (inTime (rule .kind) (S .end) time) ∙ ap J.isBroken (sym (running-is rule (sound .some) S run time));
+    open″ = opened (inTime (rule .kind) (S .end) time) ∙ ap J.isOpen (sym (running-is rule (sound .some) S run time));
+    due = λ z. dues (inTime (rule .kind) (S .end) time) z ∙ sym run;
   })
     where
       held : (i : Bool) → isBroken (cond (not i) 3 2) ≡ J.isBroken (cond i open′ broken)
@@ -139,16 +138,15 @@ module _ (b : Tables) (concerned r : ℕ) (rule : Rule) (h : Rules (b .fragments
   -- any other rule
   rests : (latest : ℕ) (bit : Bool) → running rule S ≡ false → bit ≡ J.isOpen (statusAt rule S latest) → J.isBroken (statusAt rule S latest) ≡ false → Ruled rule time S st false bit false
   rests latest bit run o k = record {
-    state = refl;
-    stands = w;
+    shows = λ z. w;
     broken′ = sym k ∙ ap J.isBroken (time-alone rule S run latest time);
     open″ = o ∙ ap J.isOpen (time-alone rule S run latest time);
     due = λ z. sym run;
   }
 
   -- the three together, as the loop over the rules looks at them: `due` is the old bit of the deadlines, `bit` that of the open rules
-  pub ruled : (latest : ℕ) (own due bit : Bool) → name < 64 → member concerned r ≡ own → due ≡ running rule S → bit ≡ J.isOpen (statusAt rule S latest) → J.isBroken (statusAt rule S latest) ≡ false
-      → (let s : Stepped = ruleOf b concerned r st name time in Ruled rule time (cond own (step rule S (record { name = name; time = time })) S) (cond (own || due) (s .state) st) ((own || due) && isBroken (s .standing)) (cond (own || due) (isOpen (s .standing)) bit) ((own || due) && isDue (s .standing)))
-  ruled latest true due bit named m d o k = steps named m
+  pub ruled : (latest : ℕ) (own due bit : Bool) → (own ≡ true → T (isIn name (namesOf rule))) → member concerned r ≡ own → due ≡ running rule S → bit ≡ J.isOpen (statusAt rule S latest) → J.isBroken (statusAt rule S latest) ≡ false
+      → (let s : Stepped = ruleOf table concerned r st name time in Ruled rule time (cond own (step rule S (record { name = name; time = time })) S) (cond (own || due) (s .state) st) ((own || due) && isBroken (s .standing)) (cond (own || due) (isOpen (s .standing)) bit) ((own || due) && isDue (s .standing)))
+  ruled latest true due bit named m d o k = steps (named refl) m
   ruled latest false true bit named m d o k = waits m (sym d)
   ruled latest false false bit named m d o k = rests latest bit (sym d) o k

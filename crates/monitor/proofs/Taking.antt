@@ -6,12 +6,13 @@ use mathlib.Core.List.{List, [], _∷_}
 use Prim.Native.Nat.{ℕ, zero, suc, _+_, _^_, _≤_, _<_}
 use native.Mathlib.Nat.{not-suc-le-zero, lt-of-lt-of-le, pow-le-pow-right}
 use native.Mathlib.Omega.{arith}
-use lib.Dec.{ltb}
+use lib.Dec.{T, ltb}
 use lib.ListN.{length, getD}
 use borrow.Author.Tests.{lt-ltb, le-ltb, ltb-true, ltb-false}
 use Rattle.names.specs.Names.{member}
 use Rattle.names.proofs.Sets.{member-empty}
-use Rattle.pattern.specs.Meaning.{Rule, Status, broken, whole}
+use Rattle.pattern.specs.Lists.{isIn}
+use Rattle.pattern.specs.Meaning.{Rule, namesOf, Status, broken, whole}
 use Rattle.pattern.specs.Judge.{mask}
 use Rattle.pattern.specs.Judge as J
 use Rattle.pattern.specs.Model.{statusAt, afterAll, statuses, step}
@@ -22,15 +23,13 @@ use Rattle.masks.proofs.Members.{same-members, maskN-below, member-maskN, membe
 use Rattle.masks.proofs.Statuses.{member-mask, mask-below, member-mask-past}
 use Rattle.step.specs.declared.RuleState.{RuleState}
 use Rattle.fragment.specs.Upto.{mapN, length-mapN}
-use Rattle.deadline.specs.Plans.{planOf}
-use Rattle.step.specs.Steps.{Tables}
-use Rattle.step.specs.Decode.{decode}
+use Rattle.tables.specs.Cells.{HoldsRule}
+use Rattle.step.specs.Shows.{Sound, Shows}
 use Rattle.step.proofs.Status.{running}
-use Rattle.step.proofs.Links.{Rules, Stands}
 use Rattle.words.specs.Words.{noState}
 use Rattle.words.proofs.Places.{getD-mapN}
 use Rattle.rules.specs.Pass.{Pass, touched, stateAt, brokenAt, openAt, dueAt, passOf}
-use Rattle.monitor.specs.Promise.{modelAt}
+use Rattle.monitor.specs.Promise.{noModel, modelAt}
 use Rattle.monitor.proofs.Rulewise.{Ruled, ruled}
 
 -- ---- lists by their elements
@@ -72,17 +71,17 @@ mask-same t bits rules sts now e few inner outer = same-members 16 (maskN bits 1
     bit k h = member-maskN bits 16 k h ∙ look (ltb k (length rules)) refl
       where
         look : (b : Bool) → ltb k (length rules) ≡ b → bits k ≡ member (mask t (statuses rules sts now)) k
-        look true q = let i : k < length rules = ltb-true k (length rules) q in inner k i ∙ sym (member-mask t (statuses rules sts now) k whole (omega (arith, l)) ∙ ap t (status-at rules sts now k (decode noState) whole e i))
+        look true q = let i : k < length rules = ltb-true k (length rules) q in inner k i ∙ sym (member-mask t (statuses rules sts now) k whole (omega (arith, l)) ∙ ap t (status-at rules sts now k noModel whole e i))
         look false q = let i : length rules ≤ k = ltb-false k (length rules) q in outer k i h ∙ sym (member-mask-past t (statuses rules sts now) k (omega (arith, l)))
 
 -- ---- the pass
 
-module _ (b : Tables) (rules : List Rule) (few : length rules ≤ 16) (held : (r : ℕ) → r < length rules → Rules (b .fragments) (b .names) (b .ranges) r (planOf (getD (b .heads) r 0)) (ruleAt rules r))
+module _ (b : List ℕ) (rules : List Rule) (few : length rules ≤ 16) (held : (r : ℕ) → r < length rules → HoldsRule b r (ruleAt rules r)) (sounds : (r : ℕ) → r < length rules → Sound (ruleAt rules r))
     (sts : List M.RuleState) (many : length sts ≡ length rules) (latest : ℕ) (calm : (r : ℕ) → r < length rules → J.isBroken (statusAt (ruleAt rules r) (modelAt sts r) latest) ≡ false)
-    (old : List RuleState) (sixteen : length old ≡ 16) (state : (r : ℕ) → r < length rules → decode (getD old r noState) ≡ modelAt sts r) (stands : (r : ℕ) → r < length rules → Stands (ruleAt rules r) (getD old r noState))
+    (old : List RuleState) (sixteen : length old ≡ 16) (shows : (r : ℕ) → r < length rules → Shows (ruleAt rules r) (getD old r noState) (modelAt sts r))
     (opens : ℕ) (open-is : opens ≡ mask J.isOpen (statuses rules sts latest))
     (dues : ℕ) (due-is : (r : ℕ) → member dues r ≡ (ltb r (length rules) && running (ruleAt rules r) (modelAt sts r)))
-    (o : J.Observation) (concerned name time : ℕ) (named : name < 64) (own : ℕ → Bool)
+    (o : J.Observation) (concerned name time : ℕ) (own : ℕ → Bool) (named : (r : ℕ) → r < length rules → own r ≡ true → T (isIn name (namesOf (ruleAt rules r))))
     (concern-is : (r : ℕ) → member concerned r ≡ (ltb r (length rules) && own r))
     (after-is : (r : ℕ) → r < length rules → (st : M.RuleState) → M.after (ruleAt rules r) st o ≡ cond (own r) (step (ruleAt rules r) st (record { name = name; time = time })) st) where
   abbrev P : Pass
@@ -100,15 +99,13 @@ module _ (b : Tables) (rules : List Rule) (few : length rules ≤ 16) (held : (r
       let rule : Rule = ruleAt rules r in
       let st : RuleState = getD old r noState in
       let i : ltb r (length rules) ≡ true = lt-ltb r (length rules) h in
-      let is : decode st ≡ modelAt sts r = state r h in
       let c : member concerned r ≡ own r = concern-is r ∙ ap (λ (x : Bool). x && own r) i in
-      let d : member dues r ≡ running rule (decode st) = due-is r ∙ ap (λ (x : Bool). x && running rule (modelAt sts r)) i ∙ ap (running rule) (sym is) in
+      let d : member dues r ≡ running rule (modelAt sts r) = due-is r ∙ ap (λ (x : Bool). x && running rule (modelAt sts r)) i in
       let l : r < length (statuses rules sts latest) = subst (λ (n : ℕ). r < n) (sym (statuses-length rules sts latest many)) h in
-      let bit : member opens r ≡ J.isOpen (statusAt rule (decode st) latest) = ap (λ (n : ℕ). member n r) open-is ∙ member-mask J.isOpen (statuses rules sts latest) r whole l ∙ ap J.isOpen (status-at rules sts latest r (decode noState) whole many h ∙ ap (λ (x : M.RuleState). statusAt rule x latest) (sym is)) in
-      let k : J.isBroken (statusAt rule (decode st) latest) ≡ false = ap (λ (x : M.RuleState). J.isBroken (statusAt rule x latest)) is ∙ calm r h in
-      let now : cond (member concerned r) (step rule (decode st) (record { name = name; time = time })) (decode st) ≡ modelAt (afterAll rules sts o) r = ap₂ (λ (x : Bool) (y : M.RuleState). cond x (step rule y (record { name = name; time = time })) y) c is ∙ sym (after-at rules sts o r (decode noState) many h ∙ after-is r h (modelAt sts r)) in
+      let bit : member opens r ≡ J.isOpen (statusAt rule (modelAt sts r) latest) = ap (λ (n : ℕ). member n r) open-is ∙ member-mask J.isOpen (statuses rules sts latest) r whole l ∙ ap J.isOpen (status-at rules sts latest r noModel whole many h) in
+      let now : cond (member concerned r) (step rule (modelAt sts r) (record { name = name; time = time })) (modelAt sts r) ≡ modelAt (afterAll rules sts o) r = ap (λ (x : Bool). cond x (step rule (modelAt sts r) (record { name = name; time = time })) (modelAt sts r)) c ∙ sym (after-at rules sts o r noModel many h ∙ after-is r h (modelAt sts r)) in
       subst (λ (x : M.RuleState). Ruled rule time x (stateAt b concerned opens dues old name time r st) (brokenAt b concerned opens dues old name time r) (openAt b concerned opens dues old name time r) (dueAt b concerned opens dues old name time r)) now
-      (ruled b concerned r rule (held r h) st (stands r h) name time latest (member concerned r) (member dues r) (member opens r) named refl d bit k)
+      (ruled b concerned r rule (held r h) (sounds r h) st (modelAt sts r) (shows r h) name time latest (member concerned r) (member dues r) (member opens r) (λ z. named r h (sym c ∙ z)) refl d bit (calm r h))
 
   -- a number that is no rule's is not touched
   no-rule : (r : ℕ) → length rules ≤ r → touched b concerned opens dues old name time r ≡ false
@@ -127,12 +124,6 @@ module _ (b : Tables) (rules : List Rule) (few : length rules ≤ 16) (held : (r
   unfolding passOf
   pass-at r h = getD-mapN (stateAt b concerned opens dues old name time) noState 0 16 old r h (omega (arith, sixteen)) ∙ ap (λ (i : ℕ). stateAt b concerned opens dues old name time i (getD old r noState)) (omega arith)
 
-  pub pass-state : (r : ℕ) → r < length rules → decode (getD (P .rules) r noState) ≡ modelAt (afterAll rules sts o) r
-  pass-state r h = ap decode (pass-at r (omega arith)) ∙ each r h .state
-
-  pub pass-stands : (r : ℕ) → r < length rules → Stands (ruleAt rules r) (getD (P .rules) r noState)
-  pass-stands r h = subst (Stands (ruleAt rules r)) (sym (pass-at r (omega arith))) (each r h .stands)
-
   pub pass-broken : P .broken ≡ mask J.isBroken (statuses rules (afterAll rules sts o) time)
   unfolding passOf
   pass-broken = mask-same J.isBroken (brokenAt b concerned opens dues old name time) rules (afterAll rules sts o) time (after-length rules sts o many) few (λ r h. each r h .broken′) (λ r h l. rw (no-rule r h))
@@ -141,15 +132,20 @@ module _ (b : Tables) (rules : List Rule) (few : length rules ≤ 16) (held : (r
   unfolding passOf
   pass-open = mask-same J.isOpen (openAt b concerned opens dues old name time) rules (afterAll rules sts o) time (after-length rules sts o many) few (λ r h. each r h .open″) (λ r h l. rw (no-rule r h) (no-open r h))
 
-  -- where no rule broke, the mask of the deadlines that run
+  -- where no rule broke: the states, and the mask of the deadlines that run
+
+  unbroken : P .broken ≡ 0 → (k : ℕ) → k < 16 → brokenAt b concerned opens dues old name time k ≡ false
+  unfolding passOf
+  unbroken none k h = sym (member-maskN (brokenAt b concerned opens dues old name time) 16 k h) ∙ ap (λ (n : ℕ). member n k) none ∙ member-empty k
+
+  pub pass-shows : P .broken ≡ 0 → (r : ℕ) → r < length rules → Shows (ruleAt rules r) (getD (P .rules) r noState) (modelAt (afterAll rules sts o) r)
+  pass-shows none r h = subst (λ (st : RuleState). Shows (ruleAt rules r) st (modelAt (afterAll rules sts o) r)) (sym (pass-at r (omega arith))) (each r h .shows (unbroken none r (omega arith)))
+
   pub pass-due : P .broken ≡ 0 → (r : ℕ) → member (P .dues) r ≡ (ltb r (length rules) && running (ruleAt rules r) (modelAt (afterAll rules sts o) r))
   unfolding passOf
   pass-due none r = look (ltb r (length rules)) refl (ltb r 16) refl
     where
-      unbroken : (k : ℕ) → k < 16 → brokenAt b concerned opens dues old name time k ≡ false
-      unbroken k h = sym (member-maskN (brokenAt b concerned opens dues old name time) 16 k h) ∙ ap (λ (n : ℕ). member n k) none ∙ member-empty k
-
       look : (x : Bool) → ltb r (length rules) ≡ x → (y : Bool) → ltb r 16 ≡ y → member (maskN (dueAt b concerned opens dues old name time) 16) r ≡ (x && running (ruleAt rules r) (modelAt (afterAll rules sts o) r))
-      look true q y q′ = let h : r < length rules = ltb-true r (length rules) q in member-maskN (dueAt b concerned opens dues old name time) 16 r (omega arith) ∙ each r h .due (unbroken r (omega arith))
+      look true q y q′ = let h : r < length rules = ltb-true r (length rules) q in member-maskN (dueAt b concerned opens dues old name time) 16 r (omega arith) ∙ each r h .due (unbroken none r (omega arith))
       look false q true q′ = member-maskN (dueAt b concerned opens dues old name time) 16 r (ltb-true r 16 q′) ∙ rw (no-rule r (ltb-false r (length rules) q))
       look false q false q′ = member-maskN-past (dueAt b concerned opens dues old name time) 16 r (ltb-false r 16 q′)

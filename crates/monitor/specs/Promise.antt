@@ -17,9 +17,8 @@ use Rattle.layout.specs.Layout.{Sheet, WellFormedSheet}
 use Rattle.layout.specs.Pages.{ruleAt}
 use Rattle.book.specs.Looks.{Looks}
 use Rattle.book.specs.declared.Book.{Book}
-use Rattle.step.specs.Decode.{decode}
+use Rattle.step.specs.Shows.{Shows}
 use Rattle.step.proofs.Status.{running}
-use Rattle.step.proofs.Links.{Stands}
 use Rattle.words.specs.Words.{noState, Held, heldBy}
 use Rattle.observing.specs.declared.Observation.{Observation}
 use Rattle.observing.specs.declared.Observation.the-variants.{Event, Clock}
@@ -49,15 +48,18 @@ Says a m = SaysOf a (heldBy m)
 
 -- ---- a monitor's numbers, and the state of the model that they stand for
 
--- the state of rule r
+-- the state of rule r; numbers past the last rule's are not looked at
+abbrev pub noModel : M.RuleState
+noModel = record { fragment = 0; states = []; count = 0; end = 0 }
+
 abbrev pub modelAt : List M.RuleState → ℕ → M.RuleState
-modelAt sts r = getD sts r (decode noState)
+modelAt sts r = getD sts r noModel
 
 pub record Represents (rules : List Rule) (model : M.Monitor) (m : Held) : Type 0 where
   pub sixteen : length (m .rules) ≡ 16
   pub many : length (model .rules) ≡ length rules
-  pub state : (r : ℕ) → r < length rules → decode (getD (m .rules) r noState) ≡ modelAt (model .rules) r
-  pub stands : (r : ℕ) → r < length rules → Stands (ruleAt rules r) (getD (m .rules) r noState)
+  -- after a break the rules' states say nothing
+  pub shows : eqb (m .verdict) 2 ≡ false → (r : ℕ) → r < length rules → Shows (ruleAt rules r) (getD (m .rules) r noState) (modelAt (model .rules) r)
   pub time : m .latest ≡ model .latest
   pub count : m .taken ≡ model .taken
   pub verdict′ : verdictIn m ≡ model .verdict
@@ -91,21 +93,13 @@ pub record Observes (b : Book) (before : List ℕ) (o : Observation) (a : Answer
   pub follows : (S : Sheet) (k : Kept) → Follows S k b before → (oracle : Oracle) → Right (S .rules) oracle → Follows S (judge oracle k (seen o) .kept) b after
   pub unchanged : (n : ℕ) → said a ≡ J.refused n → after ≡ before
 
--- the arrays that a call is lent are this book's
-pub record Lends (heads fragments names ranges holders : List ℕ) (b : Book) : Type 0 where
-  pub heads′ : b .heads ≡ heads
-  pub fragments′ : b .fragments ≡ fragments
-  pub names′ : b .names ≡ names
-  pub ranges′ : b .ranges ≡ ranges
-  pub holders′ : b .holders ≡ holders
+-- the call: of whatever book the table that it is lent is
+abbrev pub ObservesLent : List ℕ → List ℕ → Observation → Answer → List ℕ → Type 0
+ObservesLent table before o a after = (b : Book) → b .table ≡ table → Observes b before o a after
 
--- the call: of whatever book the arrays are
-abbrev pub ObservesLent : List ℕ → List ℕ → List ℕ → List ℕ → List ℕ → List ℕ → Observation → Answer → List ℕ → Type 0
-ObservesLent heads fragments names ranges holders before o a after = (b : Book) → Lends heads fragments names ranges holders b → Observes b before o a after
-
--- a fresh monitor follows the judge that has kept nothing
-abbrev pub Freshes : List ℕ → List ℕ → Type 0
-Freshes fragments m = (S : Sheet) (b : Book) → WellFormedSheet S → Looks S b → b .fragments ≡ fragments → Follows S nothing b m
+-- a fresh monitor follows the judge that has kept nothing, under every book
+abbrev pub Freshes : List ℕ → Type 0
+Freshes m = (S : Sheet) (b : Book) → WellFormedSheet S → Looks S b → Follows S nothing b m
 
 -- ---- a run of calls
 

@@ -9,7 +9,7 @@ use Rattle.layout.specs.Layout.{Sheet, WellFormedSheet}
 use Rattle.book.specs.Looks.{Looks}
 use Rattle.book.specs.declared.Book.{Book}
 use Rattle.words.specs.Words.{Held}
-use Rattle.monitor.specs.Promise.{said, seen, Tracks, Lends}
+use Rattle.monitor.specs.Promise.{said, seen, Tracks}
 use Rattle.monitor.specs.declared.Monitor.{Monitor}
 use Rattle.observing.specs.declared.Observation.{Observation}
 use Rattle.observing.specs.declared.Answer.{Answer}
@@ -25,10 +25,10 @@ pub record Turns (b : Book) (before : Monitor) (o : Observation) (a : Answer) (a
   pub follows : (S : Sheet) (k : Kept) → Tracks S k b (numbersOf before) → (oracle : Oracle) → Right (S .rules) oracle → Tracks S (judge oracle k (seen o) .kept) b (numbersOf after)
   pub unchanged : (n : ℕ) → said a ≡ J.refused n → after ≡ before
 
--- the call: of whatever book the arrays are
-abbrev pub TurnsLent : List ℕ → List ℕ → List ℕ → List ℕ → List ℕ → Monitor → Observation → Answer → Monitor → Type 0
-TurnsLent heads fragments names ranges holders before o a after = (b : Book) → Lends heads fragments names ranges holders b → Turns b before o a after
+-- the call: of whatever book the table that it is lent is
+abbrev pub TurnsLent : List ℕ → Monitor → Observation → Answer → Monitor → Type 0
+TurnsLent table before o a after = (b : Book) → b .table ≡ table → Turns b before o a after
 
--- a fresh monitor follows the judge that has kept nothing
-abbrev pub Starts : List ℕ → Monitor → Type 0
-Starts fragments m = (S : Sheet) (b : Book) → WellFormedSheet S → Looks S b → b .fragments ≡ fragments → Tracks S nothing b (numbersOf m)
+-- a fresh monitor follows the judge that has kept nothing, under every book
+abbrev pub Starts : Monitor → Type 0
+Starts m = (S : Sheet) (b : Book) → WellFormedSheet S → Looks S b → Tracks S nothing b (numbersOf m)

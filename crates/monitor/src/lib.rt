@@ -1,8 +1,9 @@
-// The monitor of a book (document 01, "Observing"): its 34 words are lent and changed in place, and the book's arrays are lent by reference. The code of an observation is crate
+// The monitor of a book (document 01, "Observing"): its 34 words are lent and changed in place, and the book's table is lent by reference. The code of an observation is crate
 // `observing`, that of a fresh monitor crate `opening`; here stands what they promise for the book of a sheet.
 ghost use mathlib.Core.Path.{_≡_};
 ghost use lib.ListN.{length};
 ghost use Rattle.words.specs.Words.{heldBy, rulesIn, Holds};
+ghost use Rattle.observing.specs.declared.Observation.the-variants.{Event, Clock};
 ghost use Rattle.monitor.specs.Promise.{ObservesLent, Freshes, Says, SaysOf};
 ghost use Rattle.monitor.specs.Value.{numbersOf, TurnsLent, Starts};
 use observing::Answer;
@@ -11,28 +12,33 @@ use step::RuleState;
 
 // ---- in place
 
-// One observation of a monitor in place, under the book whose arrays are lent: the judge's answer, and the words then hold a monitor that follows what the judge then keeps. A refused
+// One observation of a monitor in place, under the book whose table is lent: the judge's answer, and the words then hold a monitor that follows what the judge then keeps. A refused
 // observation leaves every word as it was.
-// For arrays or words that these calls did not make, or a monitor opened for another book, the answer is the program's choice; the call returns, and touches nothing but the words.
-pub fn observe<'a>(
-    heads: &'a [u64; 16],
-    fragments: &'a [u16; 256],
-    names: &'a [u64; 256],
-    ranges: &'a [u64; 2048],
-    holders: &'a [u16; 64],
-    m: &mut [u64; 34],
-    o: Observation,
-) -> Answer
-    ensures { λ r. ⌜ ObservesLent (now (heads .entry)) (now (fragments .entry)) (now (names .entry)) (now (ranges .entry)) (now (holders .entry)) (now (m .entry)) o r (now (m .exit)) ⌝ }
+// For a table or words that these calls did not make, or a monitor opened for another book, the answer is the program's choice; the call returns, and touches nothing but the words.
+pub fn observe(table: &[u64; 1104], m: &mut [u64; 34], o: Observation) -> Answer
+    ensures { λ r. ⌜ ObservesLent (now (table .entry)) (now (m .entry)) o r (now (m .exit)) ⌝ }
 {
-    observing::observed_by(heads, fragments, names, ranges, holders, m, o)
+    observing::observed_by(table, m, o)
 }
 
-// A fresh monitor for the book whose fragments are lent: it follows the judge that has kept nothing.
-pub fn fresh(fragments: &[u16; 256]) -> [u64; 34]
-    ensures { λ m. ⌜ Freshes (now (fragments .entry)) m ⌝ }
+// The same of an event, whose name may be any number; and of a clock reading.
+pub fn note(table: &[u64; 1104], m: &mut [u64; 34], name: u32, time: u32) -> Answer
+    ensures { λ r. ⌜ ObservesLent (now (table .entry)) (now (m .entry)) (Event name time) r (now (m .exit)) ⌝ }
 {
-    opening::unstarted(fragments)
+    observing::noted(table, m, name, time)
+}
+
+pub fn tick(table: &[u64; 1104], m: &mut [u64; 34], time: u32) -> Answer
+    ensures { λ r. ⌜ ObservesLent (now (table .entry)) (now (m .entry)) (Clock time) r (now (m .exit)) ⌝ }
+{
+    observing::ticked(table, m, time)
+}
+
+// A fresh monitor: it follows the judge that has kept nothing, under every book.
+pub fn fresh() -> [u64; 34]
+    ensures { λ m. ⌜ Freshes m ⌝ }
+{
+    opening::unstarted()
 }
 
 // The verdict that a monitor holds.
@@ -106,6 +112,7 @@ fn rules_of(w: &[u64; 34]) -> [RuleState; 16]
 {
     let none = RuleState {
         fragment: 0,
+        current: 0,
         states: [0u8; 8],
         count: 0,
         end: 0,
@@ -136,19 +143,11 @@ fn of_words(w: &[u64; 34]) -> Monitor
 }
 
 // One observation by value: what `observe` does in words.
-pub fn step<'a>(
-    heads: &'a [u64; 16],
-    fragments: &'a [u16; 256],
-    names: &'a [u64; 256],
-    ranges: &'a [u64; 2048],
-    holders: &'a [u16; 64],
-    m: Monitor,
-    o: Observation,
-) -> Answered
-    ensures { λ r. ⌜ TurnsLent (now (heads .entry)) (now (fragments .entry)) (now (names .entry)) (now (ranges .entry)) (now (holders .entry)) m o (r .answer) (r .monitor) ⌝ }
+pub fn step(table: &[u64; 1104], m: Monitor, o: Observation) -> Answered
+    ensures { λ r. ⌜ TurnsLent (now (table .entry)) m o (r .answer) (r .monitor) ⌝ }
 {
     let mut w = in_words(m);
-    let answer = observe(heads, fragments, names, ranges, holders, &mut w, o);
+    let answer = observe(table, &mut w, o);
     let next = of_words(&w);
     Answered {
         monitor: next,
@@ -157,10 +156,10 @@ pub fn step<'a>(
 }
 
 // A fresh monitor.
-pub fn start(fragments: &[u16; 256]) -> Monitor
-    ensures { λ m. ⌜ Starts (now (fragments .entry)) m ⌝ }
+pub fn start() -> Monitor
+    ensures { λ m. ⌜ Starts m ⌝ }
 {
-    let w = fresh(fragments);
+    let w = fresh();
     of_words(&w)
 }
 
