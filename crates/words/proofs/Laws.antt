@@ -7,8 +7,8 @@ use native.Mathlib.Omega.{arith}
 use lib.ListN.{length, getD, set, replicate, length-set}
 use lib.Seq.{getD-set-same, getD-set-other}
 use Rattle.step.specs.declared.RuleState.{RuleState}
-use Rattle.fragment.specs.Upto.{mapN, length-mapN}
-use Rattle.words.specs.Words.{stateIn, stateAt, noState, ruleFrom, rulesIn, heldBy, Stores, Holds}
+use Rattle.fragment.specs.Upto.{length-mapN}
+use Rattle.words.specs.Words.{stateIn, stateAt, noState, ruleFrom, rulesIn, Stores, Holds}
 use Rattle.words.proofs.Places.{mapN-within, set-mapN, getD-mapN}
 
 -- ---- the rules

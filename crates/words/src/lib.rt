@@ -4,7 +4,7 @@
 ghost use mathlib.Core.Path.{_≡_};
 ghost use Prim.Native.Nat.{_%_, _/_};
 ghost use lib.ListN.{length, getD};
-ghost use Rattle.words.specs.Words.{stateIn, noState, rulesIn, takenIn, latestIn, verdictNumberIn, maskIn, duesIn, heldBy, Stores, Holds};
+ghost use Rattle.words.specs.Words.{stateIn, noState, rulesIn, heldBy, Stores, Holds};
 use step::RuleState;
 
 // ---- a rule's two words

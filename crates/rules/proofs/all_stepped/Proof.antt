@@ -1,7 +1,6 @@
 -- `rules::all_stepped` meets its contract. The loop's invariant is `Stepping`: the rules seen have their new states, and the masks speak of those. The rest is as in `all_waited`.
 -- Assumes nothing.
 use mathlib.Core.Path.{_≡_}
-use mathlib.Core.List.{List}
 use Prim.Native.Nat.{ℕ}
 use native.Mathlib.Omega.{arith}
 use denote.Ref.{now}

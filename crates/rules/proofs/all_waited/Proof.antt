@@ -1,6 +1,5 @@
 -- `rules::all_waited` meets its contract. The loop's invariant is `Noting`: the masks speak of the rules seen. Each turn takes the lowest rule out of `todo`, which so becomes a smaller
 -- number: the measure. When it is 0, all have been seen. Assumes nothing.
-use mathlib.Core.Path.{_≡_}
 use mathlib.Core.List.{List}
 use Prim.Native.Nat.{ℕ}
 use native.Mathlib.Omega.{arith}
