@@ -79,7 +79,7 @@ ordering-place (f ∷ fs) m h = look (of-append m (fragmentNames f) (orderingNam
 
 -- ---- a rule's
 
-ordering-append : (a b : List Fragment) → orderingNames (a ++ b) ≡ orderingNames a ++ orderingNames b
+pub ordering-append : (a b : List Fragment) → orderingNames (a ++ b) ≡ orderingNames a ++ orderingNames b
 ordering-append [] b = refl
 ordering-append (f ∷ a) b = ap (fragmentNames f ++_) (ordering-append a b) ∙ sym (append-assoc (fragmentNames f) (orderingNames a) (orderingNames b))
 

@@ -3,53 +3,45 @@
 use mathlib.Core.Path.{_≡_, refl, sym, _∙_, ap, ap₂, subst}
 use mathlib.Core.Bool.{Bool, true, false, _&&_, and-false}
 use mathlib.Core.List.{List, [], _∷_, map}
-use Prim.Native.Nat.{ℕ, zero, suc, _+_, _*_, _<_}
-use native.Mathlib.Nat.{not-suc-le-zero, add-zero}
+use Prim.Native.Nat.{ℕ, zero, suc, _<_}
+use native.Mathlib.Nat.{not-suc-le-zero}
 use native.Mathlib.Omega.{arith}
 use lib.Dec.{ltb}
-use lib.ListN.{length, getD, replicate, length-append}
+use lib.ListN.{length, getD, getD-replicate}
 use borrow.Author.Tests.{ltb-true}
 use Rattle.names.proofs.Sets.{member-empty}
 use Rattle.pattern.specs.Lists.{Each}
 use Rattle.pattern.specs.Meaning.{Rule, Status, whole, WellFormed}
 use Rattle.pattern.specs.Judge.{Oracle, Right, mask, Kept, nothing, judge, judgeAnswers, judgeKeeps}
 use Rattle.pattern.specs.Judge as J
-use Rattle.pattern.specs.Recogniser.{notBegun}
-use Rattle.pattern.specs.Model.{roundOf, fragmentAt, statuses, statusAt, atRest, freshMonitor, fresh}
+use Rattle.pattern.specs.Model.{statuses, statusAt, atRest, freshMonitor, fresh}
 use Rattle.pattern.specs.Model as M
 use Rattle.pattern.proofs.Basics.{is-true}
 use Rattle.pattern.proofs.Oracle.{modelOracle, right-oracle}
 use Rattle.pattern.proofs.Tracks.{fresh-at-rest}
 use Rattle.pattern.proofs.Agreement.{fresh-follows}
-use Rattle.recogniser.specs.Numbers.{stateOf}
 use Rattle.layout.specs.Layout.{Sheet, WellFormedSheet, Bytes}
 use Rattle.layout.specs.Pages.{ruleAt}
 use Rattle.layout.specs.Reading.{accepted, readSheet}
 use Rattle.layout.proofs.Acceptance.{accepted-is-encoded}
 use Rattle.layout.proofs.Accepted.{rules-formed}
-use Rattle.tables.specs.Words.{countIn}
+use Rattle.tables.specs.Cells.{isTimed}
 use Rattle.book.specs.Books.{Translates}
 use Rattle.book.specs.Looks.{Looks}
 use Rattle.book.specs.declared.Book.{Book}
 use Rattle.book.specs.declared.Translation.{Translation}
 use Rattle.book.proofs.Translated.{translated}
 use Rattle.step.specs.declared.RuleState.{RuleState}
-use Rattle.fragment.specs.Upto.{mapN, length-mapN}
-use Rattle.fragment.specs.Fragments.{Ranges, unbegunOf, zeros, freshStates}
-use Rattle.step.specs.Steps.{rangesOf}
-use Rattle.step.specs.Decode.{decode, HoldsFragment}
-use Rattle.step.proofs.Slots.{fresh-are}
-use Rattle.step.proofs.Status.{running, isTimed}
-use Rattle.step.proofs.Links.{Stands}
+use Rattle.step.specs.Shows.{untouched}
+use Rattle.step.proofs.Status.{running}
 use Rattle.words.specs.Words.{noState, Held, heldBy, Holds}
-use Rattle.words.proofs.Places.{getD-mapN}
-use Rattle.opening.specs.Fresh.{freshRule, freshOf}
-use Rattle.monitor.specs.Promise.{said, seen, verdictIn, modelAt, Represents, Tracks, Follows, Observes, Freshes, Run, done, more, CodeAgreement}
+use Rattle.opening.specs.Fresh.{freshState, freshHeld}
+use Rattle.monitor.specs.Promise.{said, seen, verdictIn, noModel, modelAt, Represents, Tracks, Follows, Observes, Freshes, Run, done, more, CodeAgreement}
 use Rattle.monitor.specs.Value.{numbersOf, Turns, Starts}
 use Rattle.observing.specs.declared.Observation.{Observation}
 use Rattle.observing.specs.declared.Answer.{Answer}
 use Rattle.monitor.specs.declared.Monitor.{Monitor}
-use Rattle.monitor.proofs.Holding.{rule-formed, holds-rule}
+use Rattle.monitor.proofs.Holding.{rule-formed}
 
 -- ---- the fresh monitor
 
@@ -69,36 +61,25 @@ whole-mask t z (r ∷ rs) w now =
     let s : statusAt r (fresh r) now ≡ whole = rw (is-true (atRest r (fresh r)) (fresh-at-rest r (w .0))) in
     rw (s, z, whole-mask t z rs (w .1) now)
 
-module _ (S : Sheet) (formed : WellFormedSheet S) (b : Book) (looks : Looks S b) where
-  abbrev first : ℕ → RuleState
-  first r = freshRule (b .fragments) r noState
+module _ (S : Sheet) (formed : WellFormedSheet S) where
+  small : (r : ℕ) → r < length (S .rules) → r < 16
+  small r h = let few = formed .count .1 in omega arith
 
-  rule-at : (r : ℕ) → r < 16 → getD (freshOf (b .fragments) .rules) r noState ≡ freshRule (b .fragments) r noState
-  unfolding freshOf
-  rule-at r h = getD-mapN (freshRule (b .fragments)) noState 0 16 (replicate 16 noState) r h (omega arith) ∙ ap (λ (i : ℕ). freshRule (b .fragments) i noState) (omega arith)
+  idle : (r : ℕ) → (ltb r (length (S .rules)) && running (ruleAt (S .rules) r) (modelAt (M.freshStates (S .rules)) r)) ≡ false
+  idle r = look (ltb r (length (S .rules))) refl
+    where
+      look : (x : Bool) → ltb r (length (S .rules)) ≡ x → (x && running (ruleAt (S .rules) r) (modelAt (M.freshStates (S .rules)) r)) ≡ false
+      look true q =
+          let h : r < length (S .rules) = ltb-true r (length (S .rules)) q in
+          rw (fresh-at (S .rules) r noModel h, is-true (atRest (ruleAt (S .rules) r) (fresh (ruleAt (S .rules) r))) (fresh-at-rest (ruleAt (S .rules) r) (rule-formed S formed r h))) (and-false (isTimed (ruleAt (S .rules) r .kind)))
+      look false q = refl
 
-  round-some : (r : ℕ) → r < length (S .rules) → 0 < length (roundOf (ruleAt (S .rules) r))
-  round-some r h = let p = rule-formed S formed b looks r h .p .count .0 in omega (arith, length-append (ruleAt (S .rules) r .p) (M.lastFragments (ruleAt (S .rules) r .kind)))
-
-  fresh-state : (r : ℕ) → r < length (S .rules) → decode (freshRule (b .fragments) r noState) ≡ fresh (ruleAt (S .rules) r)
-  unfolding freshStates rangesOf
-  fresh-state r h =
-      let rule : Rule = ruleAt (S .rules) r in
-      let w = holds-rule S formed b looks r h in
-      let inside : 0 < length (roundOf rule) = round-some r h in
-      let hf : HoldsFragment (rangesOf (b .fragments) (b .ranges) (16 * r + 0)) (fragmentAt rule 0) = w .holds .fragment 0 inside in
-      let g : Ranges = rangesOf (b .fragments) (b .ranges) (16 * r + 0) in
-      let n : countIn (getD (b .fragments) (16 * r) 0) ≡ g .size = ap (λ (i : ℕ). countIn (getD (b .fragments) i 0)) (sym (add-zero (16 * r))) in
-      let ss : map stateOf (mapN unbegunOf 0 (countIn (getD (b .fragments) (16 * r) 0)) zeros) ≡ notBegun (fragmentAt rule 0 .ranges) 8 = ap (λ (k : ℕ). map stateOf (mapN unbegunOf 0 k zeros)) n ∙ fresh-are g (g .size) 0 8 (hf .few) ∙ rw (hf .ranges) in
-      λ i. record { fragment = 0; states = ss i; count = 0; end = 0 }
-
-  fresh-represents : Represents (S .rules) (freshMonitor (S .rules)) (freshOf (b .fragments))
-  unfolding freshOf freshStates
+  fresh-represents : Represents (S .rules) (freshMonitor (S .rules)) freshHeld
+  unfolding freshHeld
   fresh-represents = record {
-    sixteen = length-mapN (freshRule (b .fragments)) 0 16 (replicate 16 noState);
+    sixteen = refl;
     many = fresh-length (S .rules);
-    state = λ r h. ap decode (rule-at r (small r h)) ∙ fresh-state r h ∙ sym (fresh-at (S .rules) r (decode noState) h);
-    stands = λ r h. subst (Stands (ruleAt (S .rules) r)) (sym (rule-at r (small r h))) (record { inside = round-some r h; eight = length-mapN unbegunOf 0 (countIn (getD (b .fragments) (16 * r) 0)) zeros });
+    shows = λ z r h. untouched (ap (λ (st : RuleState). st .count) (getD-replicate 16 r freshState noState (small r h))) (fresh-at (S .rules) r noModel h);
     time = refl;
     count = refl;
     verdict′ = refl;
@@ -106,22 +87,10 @@ module _ (S : Sheet) (formed : WellFormedSheet S) (b : Book) (looks : Looks S b)
     opens = λ z. sym (whole-mask J.isOpen refl (S .rules) (rules-formed S formed .each) 0);
     due = λ z r. member-empty r ∙ sym (idle r);
   }
-    where
-      small : (r : ℕ) → r < length (S .rules) → r < 16
-      small r h = let few = formed .count .1 in omega arith
-
-      idle : (r : ℕ) → (ltb r (length (S .rules)) && running (ruleAt (S .rules) r) (modelAt (M.freshStates (S .rules)) r)) ≡ false
-      idle r = look (ltb r (length (S .rules))) refl
-        where
-          look : (x : Bool) → ltb r (length (S .rules)) ≡ x → (x && running (ruleAt (S .rules) r) (modelAt (M.freshStates (S .rules)) r)) ≡ false
-          look true q =
-              let h : r < length (S .rules) = ltb-true r (length (S .rules)) q in
-              rw (fresh-at (S .rules) r (decode noState) h, is-true (atRest (ruleAt (S .rules) r) (fresh (ruleAt (S .rules) r))) (fresh-at-rest (ruleAt (S .rules) r) (rule-formed S formed b looks r h))) (and-false (isTimed (ruleAt (S .rules) r .kind)))
-          look false q = refl
 
 -- what the code's fresh monitor promises follows from what its words hold
-pub fresh-promise : (fragments m : List ℕ) → Holds m (freshOf fragments) → Freshes fragments m
-fresh-promise fragments m h S b formed looks lent = record {
+pub fresh-promise : (m : List ℕ) → Holds m freshHeld → Freshes m
+fresh-promise m h S b formed looks = record {
   long = h .long;
   tracks = record {
     formed = formed;
@@ -129,7 +98,7 @@ fresh-promise fragments m h S b formed looks lent = record {
     falls = tt;
     model = freshMonitor (S .rules);
     follows = fresh-follows (S .rules);
-    represents = subst (Represents (S .rules) (freshMonitor (S .rules))) (sym (h .held ∙ ap freshOf (sym lent))) (fresh-represents S formed b looks);
+    represents = subst (Represents (S .rules) (freshMonitor (S .rules))) (sym (h .held)) (fresh-represents S formed);
   };
 }
 
@@ -188,13 +157,13 @@ module _ (bytes : List ℕ) (are : Bytes bytes) (t : Translation) (translates : 
   }
 
   -- for every list of observations: what reading, translating, opening and observing one after the other answers is what the judge answers; in words that are changed in place
-  pub agreement : (m : List ℕ) → Freshes (t .book .fragments) m → (os : List Observation) (as′ : List Answer) (last : List ℕ) → Run (Observes (t .book)) m os as′ last → CodeAgreement S os as′ (heldBy last)
+  pub agreement : (m : List ℕ) → Freshes m → (os : List Observation) (as′ : List Answer) (last : List ℕ) → Run (Observes (t .book)) m os as′ last → CodeAgreement S os as′ (heldBy last)
   agreement m freshes os as′ last =
       agreed heldBy (Observes (t .book)) (λ k w. Follows S k (t .book) w) (λ k w f. f .tracks) (λ oracle right w next o a c k f. c .answers S k f oracle right) (λ oracle right w next o a c k f. c .follows S k f oracle right)
-      m (freshes S (t .book) formed looks refl)
+      m (freshes S (t .book) formed looks)
 
   -- and by value
-  pub value-agreement : (m : Monitor) → Starts (t .book .fragments) m → (os : List Observation) (as′ : List Answer) (last : Monitor) → Run (Turns (t .book)) m os as′ last → CodeAgreement S os as′ (numbersOf last)
+  pub value-agreement : (m : Monitor) → Starts m → (os : List Observation) (as′ : List Answer) (last : Monitor) → Run (Turns (t .book)) m os as′ last → CodeAgreement S os as′ (numbersOf last)
   value-agreement m starts os as′ last =
       agreed numbersOf (Turns (t .book)) (λ k x. Tracks S k (t .book) (numbersOf x)) (λ k x f. f) (λ oracle right x next o a c k f. c .answers S k f oracle right) (λ oracle right x next o a c k f. c .follows S k f oracle right)
-      m (starts S (t .book) formed looks refl)
+      m (starts S (t .book) formed looks)

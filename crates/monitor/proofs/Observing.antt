@@ -6,7 +6,7 @@ use mathlib.Core.Option.{Option, none, some}
 use mathlib.Core.List.{List}
 use Prim.Native.Nat.{ℕ, suc, _+_, _<_}
 use native.Mathlib.Omega.{arith}
-use lib.Dec.{leb, ltb, eqb}
+use lib.Dec.{T, leb, ltb, eqb}
 use lib.ListN.{length, getD}
 use borrow.Author.Tests.{leb-false, eqb-true}
 use Rattle.names.specs.Names.{member}
@@ -27,22 +27,20 @@ use Rattle.layout.proofs.Accepted.{rules-formed}
 use Rattle.book.specs.Looks.{Looks}
 use Rattle.book.specs.declared.Book.{Book}
 use Rattle.masks.proofs.Statuses.{member-mask}
-use Rattle.deadline.specs.Plans.{planOf}
-use Rattle.step.specs.Steps.{Tables}
-use Rattle.step.specs.Decode.{decode}
+use Rattle.tables.specs.Cells.{maskIn}
+use Rattle.step.specs.Shows.{Shows}
 use Rattle.step.proofs.Status.{running}
-use Rattle.step.proofs.Links.{Rules}
 use Rattle.words.specs.Words.{noState, Held, heldBy}
 use Rattle.rules.specs.Pass.{Pass, passOf}
 use Rattle.observing.specs.Observe.{Observed, judgedOf, refusedOf, takenOf, lookedOf, observeOf}
 use Rattle.observing.specs.Leaving.{Leaves}
-use Rattle.monitor.specs.Promise.{said, seen, verdictIn, modelAt, Represents, Tracks, Follows, Observes, ObservesLent}
+use Rattle.monitor.specs.Promise.{said, seen, verdictIn, noModel, modelAt, Represents, Tracks, Follows, Observes, ObservesLent}
 use Rattle.observing.specs.declared.Observation.{Observation}
 use Rattle.observing.specs.declared.Observation.the-variants.{Event, Clock}
 use Rattle.observing.specs.declared.Answer.{Answer}
 use Rattle.observing.specs.declared.Answer.the-variants.{Whole, Open, Broken, Refused}
-use Rattle.monitor.proofs.Holding.{holds-rule}
-use Rattle.monitor.proofs.Taking.{status-at, statuses-length, after-length, pass-sixteen, pass-state, pass-stands, pass-broken, pass-open, pass-due}
+use Rattle.monitor.proofs.Holding.{rule-sound}
+use Rattle.monitor.proofs.Taking.{status-at, statuses-length, after-length, pass-sixteen, pass-shows, pass-broken, pass-open, pass-due}
 
 -- ---- the verdict of a pass is the judge's
 
@@ -79,19 +77,13 @@ module _ (S : Sheet) (formed : WellFormedSheet S) (b : Book) (looks : Looks S b)
   abbrev rules : List Rule
   rules = S .rules
 
-  abbrev tables : Tables
-  tables = record { heads = b .heads; fragments = b .fragments; names = b .names; ranges = b .ranges }
-
-  held : (r : ℕ) → r < length (S .rules) → Rules (b .fragments) (b .names) (b .ranges) r (planOf (getD (b .heads) r 0)) (ruleAt (S .rules) r)
-  held r h = holds-rule S formed b looks r h
-
   module _ (model : M.Monitor) (m : Held) (rep : Represents (S .rules) model m) (running′ : eqb (m .verdict) 2 ≡ false) where
     -- no rule was broken before
     calm : (r : ℕ) → r < length (S .rules) → J.isBroken (statusAt (ruleAt (S .rules) r) (modelAt (model .rules) r) (model .latest)) ≡ false
     calm r h =
         let ss : List Status = statuses (S .rules) (model .rules) (model .latest) in
         let l : length ss ≡ length (S .rules) = statuses-length (S .rules) (model .rules) (model .latest) (rep .many) in
-        ap J.isBroken (sym (status-at (S .rules) (model .rules) (model .latest) r (decode noState) whole (rep .many) h))
+        ap J.isBroken (sym (status-at (S .rules) (model .rules) (model .latest) r noModel whole (rep .many) h))
         ∙ sym (member-mask J.isBroken ss r whole (omega (arith, l)))
         ∙ ap (λ (n : ℕ). member n r) (none-broken (eqb (mask J.isBroken (statuses (S .rules) (model .rules) (model .latest))) 0) refl (rep .verdict′ ∙ rep .settled))
         ∙ member-empty r
@@ -105,10 +97,10 @@ module _ (S : Sheet) (formed : WellFormedSheet S) (b : Book) (looks : Looks S b)
             clash false c = let w : _≡_ {A = ℕ} 0 1 = cc in zero-one w
 
     -- an observation that is taken
-    module _ (o : J.Observation) (concerned name time : ℕ) (named : name < 64) (when : J.timeOf o ≡ time) (own : ℕ → Bool) (concern-is : (r : ℕ) → member concerned r ≡ (ltb r (length (S .rules)) && own r))
+    module _ (o : J.Observation) (concerned name time : ℕ) (when : J.timeOf o ≡ time) (own : ℕ → Bool) (named : (r : ℕ) → r < length (S .rules) → own r ≡ true → T (isIn name (namesOf (ruleAt (S .rules) r)))) (concern-is : (r : ℕ) → member concerned r ≡ (ltb r (length (S .rules)) && own r))
         (after-is : (r : ℕ) → r < length (S .rules) → (st : M.RuleState) → M.after (ruleAt (S .rules) r) st o ≡ cond (own r) (M.step (ruleAt (S .rules) r) st (record { name = name; time = time })) st) where
       abbrev P : Pass
-      P = passOf tables concerned (m .mask) (m .dues) (m .rules) name time
+      P = passOf (b .table) concerned (m .mask) (m .dues) (m .rules) name time
 
       abbrev sts : List M.RuleState
       sts = afterAll (S .rules) (model .rules) o
@@ -117,13 +109,13 @@ module _ (S : Sheet) (formed : WellFormedSheet S) (b : Book) (looks : Looks S b)
       ss = statuses (S .rules) sts time
 
       broken-mask : P .broken ≡ mask J.isBroken ss
-      broken-mask = pass-broken tables (S .rules) (formed .count .1) held (model .rules) (rep .many) (model .latest) calm (m .rules) (rep .sixteen) (rep .state) (rep .stands) (m .mask) (rep .opens running′) (m .dues) (rep .due running′) o concerned name time named own concern-is after-is
+      broken-mask = pass-broken (b .table) (S .rules) (formed .count .1) (looks .table .rule) (rule-sound S formed) (model .rules) (rep .many) (model .latest) calm (m .rules) (rep .sixteen) (rep .shows running′) (m .mask) (rep .opens running′) (m .dues) (rep .due running′) o concerned name time own named concern-is after-is
 
       open-mask : P .opens ≡ mask J.isOpen ss
-      open-mask = pass-open tables (S .rules) (formed .count .1) held (model .rules) (rep .many) (model .latest) calm (m .rules) (rep .sixteen) (rep .state) (rep .stands) (m .mask) (rep .opens running′) (m .dues) (rep .due running′) o concerned name time named own concern-is after-is
+      open-mask = pass-open (b .table) (S .rules) (formed .count .1) (looks .table .rule) (rule-sound S formed) (model .rules) (rep .many) (model .latest) calm (m .rules) (rep .sixteen) (rep .shows running′) (m .mask) (rep .opens running′) (m .dues) (rep .due running′) o concerned name time own named concern-is after-is
 
       due-mask : P .broken ≡ 0 → (r : ℕ) → member (P .dues) r ≡ (ltb r (length (S .rules)) && running (ruleAt (S .rules) r) (modelAt sts r))
-      due-mask = pass-due tables (S .rules) (formed .count .1) held (model .rules) (rep .many) (model .latest) calm (m .rules) (rep .sixteen) (rep .state) (rep .stands) (m .mask) (rep .opens running′) (m .dues) (rep .due running′) o concerned name time named own concern-is after-is
+      due-mask = pass-due (b .table) (S .rules) (formed .count .1) (looks .table .rule) (rule-sound S formed) (model .rules) (rep .many) (model .latest) calm (m .rules) (rep .sixteen) (rep .shows running′) (m .mask) (rep .opens running′) (m .dues) (rep .due running′) o concerned name time own named concern-is after-is
 
       taken-is : m .taken + 1 ≡ suc (model .taken)
       taken-is = omega (arith, rep .count)
@@ -136,12 +128,11 @@ module _ (S : Sheet) (formed : WellFormedSheet S) (b : Book) (looks : Looks S b)
         abbrev made : Held
         made = record { rules = P .rules; taken = m .taken + 1; latest = time; verdict = v; mask = mask′; dues = dues′ }
 
-        makes : verdictIn made ≡ verdictOf (suc (model .taken)) ss → (eqb v 2 ≡ false → mask′ ≡ mask J.isOpen ss) → (eqb v 2 ≡ false → (r : ℕ) → member dues′ r ≡ (ltb r (length (S .rules)) && running (ruleAt (S .rules) r) (modelAt sts r))) → Represents (S .rules) (take (S .rules) model o) made
-        makes e f g = record {
-          sixteen = pass-sixteen tables (S .rules) (formed .count .1) held (model .rules) (rep .many) (model .latest) calm (m .rules) (rep .sixteen) (rep .state) (rep .stands) (m .mask) (rep .opens running′) (m .dues) (rep .due running′) o concerned name time named own concern-is after-is;
+        makes : verdictIn made ≡ verdictOf (suc (model .taken)) ss → (eqb v 2 ≡ false → P .broken ≡ 0) → (eqb v 2 ≡ false → mask′ ≡ mask J.isOpen ss) → (eqb v 2 ≡ false → (r : ℕ) → member dues′ r ≡ (ltb r (length (S .rules)) && running (ruleAt (S .rules) r) (modelAt sts r))) → Represents (S .rules) (take (S .rules) model o) made
+        makes e u f g = record {
+          sixteen = pass-sixteen (b .table) (S .rules) (formed .count .1) (looks .table .rule) (rule-sound S formed) (model .rules) (rep .many) (model .latest) calm (m .rules) (rep .sixteen) (rep .shows running′) (m .mask) (rep .opens running′) (m .dues) (rep .due running′) o concerned name time own named concern-is after-is;
           many = after-length (S .rules) (model .rules) o (rep .many);
-          state = pass-state tables (S .rules) (formed .count .1) held (model .rules) (rep .many) (model .latest) calm (m .rules) (rep .sixteen) (rep .state) (rep .stands) (m .mask) (rep .opens running′) (m .dues) (rep .due running′) o concerned name time named own concern-is after-is;
-          stands = pass-stands tables (S .rules) (formed .count .1) held (model .rules) (rep .many) (model .latest) calm (m .rules) (rep .sixteen) (rep .state) (rep .stands) (m .mask) (rep .opens running′) (m .dues) (rep .due running′) o concerned name time named own concern-is after-is;
+          shows = λ z. pass-shows (b .table) (S .rules) (formed .count .1) (looks .table .rule) (rule-sound S formed) (model .rules) (rep .many) (model .latest) calm (m .rules) (rep .sixteen) (rep .shows running′) (m .mask) (rep .opens running′) (m .dues) (rep .due running′) o concerned name time own named concern-is after-is (u z);
           time = sym when;
           count = taken-is;
           verdict′ = e ∙ sym verdict-is;
@@ -158,43 +149,43 @@ module _ (S : Sheet) (formed : WellFormedSheet S) (b : Book) (looks : Looks S b)
           verdict-by x y q q′ = rw (← broken-mask, ← open-mask, q, q′)
 
           look : (x : Bool) → eqb (P .broken) 0 ≡ x → (y : Bool) → eqb (P .opens) 0 ≡ y → Represents (S .rules) (take (S .rules) model o) (judgedBy x y P (m .taken + 1) time .monitor)
-          look true q true q′ = makes 0 0 (P .dues) (sym (verdict-by true true q q′)) (λ z. sym (eqb-true (P .opens) 0 q′) ∙ open-mask) (λ z. due-mask (eqb-true (P .broken) 0 q))
-          look true q false q′ = makes 1 (P .opens) (P .dues) (sym (verdict-by true false q q′)) (λ z. open-mask) (λ z. due-mask (eqb-true (P .broken) 0 q))
-          look false q y q′ = makes 2 (P .broken) (P .dues) (ap (λ (n : ℕ). brokenAt n (P .broken)) taken-is ∙ sym (verdict-by false y q q′)) (λ z. (let w : _≡_ {A = ℕ} 0 1 = cc in absurd (zero-one w))) (λ z. (let w : _≡_ {A = ℕ} 0 1 = cc in absurd (zero-one w)))
+          look true q true q′ = makes 0 0 (P .dues) (sym (verdict-by true true q q′)) (λ z. eqb-true (P .broken) 0 q) (λ z. sym (eqb-true (P .opens) 0 q′) ∙ open-mask) (λ z. due-mask (eqb-true (P .broken) 0 q))
+          look true q false q′ = makes 1 (P .opens) (P .dues) (sym (verdict-by true false q q′)) (λ z. eqb-true (P .broken) 0 q) (λ z. open-mask) (λ z. due-mask (eqb-true (P .broken) 0 q))
+          look false q y q′ = makes 2 (P .broken) (P .dues) (ap (λ (n : ℕ). brokenAt n (P .broken)) taken-is ∙ sym (verdict-by false y q q′)) (λ z. (let w : _≡_ {A = ℕ} 0 1 = cc in absurd (zero-one w))) (λ z. (let w : _≡_ {A = ℕ} 0 1 = cc in absurd (zero-one w))) (λ z. (let w : _≡_ {A = ℕ} 0 1 = cc in absurd (zero-one w)))
 
       takes : Alike (S .rules) (orRefuse (S .rules) model o none) (judgedOf P (m .taken + 1) time)
       takes = record { answer = says P (m .taken + 1) time ss broken-mask open-mask ∙ ap (λ (n : ℕ). J.verdict (verdictOf n ss)) taken-is ∙ ap J.verdict (sym verdict-is); represents = represents }
 
     -- an observation whose name is right: 11, 13, or taken
-    module _ (o : J.Observation) (concerned name time : ℕ) (named : name < 64) (when : J.timeOf o ≡ time) (good : J.badName o ≡ false) (own : ℕ → Bool) (concern-is : (r : ℕ) → member concerned r ≡ (ltb r (length (S .rules)) && own r))
+    module _ (o : J.Observation) (concerned name time : ℕ) (when : J.timeOf o ≡ time) (good : J.badName o ≡ false) (own : ℕ → Bool) (named : (r : ℕ) → r < length (S .rules) → own r ≡ true → T (isIn name (namesOf (ruleAt (S .rules) r)))) (concern-is : (r : ℕ) → member concerned r ≡ (ltb r (length (S .rules)) && own r))
         (after-is : (r : ℕ) → r < length (S .rules) → (st : M.RuleState) → M.after (ruleAt (S .rules) r) st o ≡ cond (own r) (M.step (ruleAt (S .rules) r) st (record { name = name; time = time })) st) where
-      named-right : Alike (S .rules) (orRefuse (S .rules) model o (refusal (model .latest) (model .taken) o)) (takenOf tables m concerned name time)
+      named-right : Alike (S .rules) (orRefuse (S .rules) model o (refusal (model .latest) (model .taken) o)) (takenOf (b .table) m concerned name time)
       unfolding takenOf refusedOf
-      named-right = subst (λ (n : Option ℕ). Alike (S .rules) (orRefuse (S .rules) model o n) (takenOf tables m concerned name time)) (sym refusal-is) (look (ltb time (m .latest)) (leb 4294967295 (m .taken)))
+      named-right = subst (λ (n : Option ℕ). Alike (S .rules) (orRefuse (S .rules) model o n) (takenOf (b .table) m concerned name time)) (sym refusal-is) (look (ltb time (m .latest)) (leb 4294967295 (m .taken)))
         where
           refusal-is : refusal (model .latest) (model .taken) o ≡ cond (ltb time (m .latest)) (some 11) (cond (leb 4294967295 (m .taken)) (some 13) none)
           refusal-is = ap₂ (λ (t n : ℕ). refusal t n o) (sym (rep .time)) (sym (rep .count)) ∙ rw (good, when)
 
-          look : (x y : Bool) → Alike (S .rules) (orRefuse (S .rules) model o (cond x (some 11) (cond y (some 13) none))) (cond x (record { monitor = m; answer = Refused 11 }) (cond y (record { monitor = m; answer = Refused 13 }) (judgedOf (passOf tables concerned (m .mask) (m .dues) (m .rules) name time) (m .taken + 1) time)))
+          look : (x y : Bool) → Alike (S .rules) (orRefuse (S .rules) model o (cond x (some 11) (cond y (some 13) none))) (cond x (record { monitor = m; answer = Refused 11 }) (cond y (record { monitor = m; answer = Refused 13 }) (judgedOf (passOf (b .table) concerned (m .mask) (m .dues) (m .rules) name time) (m .taken + 1) time)))
           look true y = record { answer = refl; represents = rep }
           look false true = record { answer = refl; represents = rep }
-          look false false = takes o concerned name time named when own concern-is after-is
+          look false false = takes o concerned name time when own named concern-is after-is
 
-    looked : (o : Observation) → Alike (S .rules) (orRefuse (S .rules) model (seen o) (refusal (model .latest) (model .taken) (seen o))) (lookedOf tables (b .holders) m o)
+    looked : (o : Observation) → Alike (S .rules) (orRefuse (S .rules) model (seen o) (refusal (model .latest) (model .taken) (seen o))) (lookedOf (b .table) m o)
     unfolding lookedOf refusedOf
     looked (Event name time) = look (leb 64 name) refl
       where
-        look : (x : Bool) → leb 64 name ≡ x → Alike (S .rules) (orRefuse (S .rules) model (J.event name time) (refusal (model .latest) (model .taken) (J.event name time))) (cond x (record { monitor = m; answer = Refused 12 }) (takenOf tables m (getD (b .holders) name 0) name time))
+        look : (x : Bool) → leb 64 name ≡ x → Alike (S .rules) (orRefuse (S .rules) model (J.event name time) (refusal (model .latest) (model .taken) (J.event name time))) (cond x (record { monitor = m; answer = Refused 12 }) (takenOf (b .table) m (maskIn (getD (b .table) name 0)) name time))
         look true q = rw q (record { answer = refl; represents = rep })
-        look false q = named-right (J.event name time) (getD (b .holders) name 0) name time (leb-false 64 name q) refl q (λ r. isIn name (namesOf (ruleAt (S .rules) r))) (λ r. looks .holders name r (leb-false 64 name q)) (λ r h st. refl)
-    looked (Clock time) = named-right (J.clock time) 0 0 time (omega arith) refl refl (λ r. false) (λ r. member-empty r ∙ sym (and-false (ltb r (length (S .rules))))) (λ r h st. refl)
+        look false q = named-right (J.event name time) (maskIn (getD (b .table) name 0)) name time refl q (λ r. isIn name (namesOf (ruleAt (S .rules) r))) (λ r h z. rw z tt) (λ r. looks .table .holders name r (leb-false 64 name q)) (λ r h st. refl)
+    looked (Clock time) = named-right (J.clock time) 0 0 time refl refl (λ r. false) (λ r h z. (let w : _≡_ {A = ℕ} 0 1 = cc in absurd (zero-one w))) (λ r. member-empty r ∙ sym (and-false (ltb r (length (S .rules))))) (λ r h st. refl)
 
   -- a stopped book gives its verdict again
-  pub alike : (model : M.Monitor) (m : Held) → Represents (S .rules) model m → (o : Observation) → Alike (S .rules) (observe (S .rules) model (seen o)) (observeOf tables (b .holders) m o)
+  pub alike : (model : M.Monitor) (m : Held) → Represents (S .rules) model m → (o : Observation) → Alike (S .rules) (observe (S .rules) model (seen o)) (observeOf (b .table) m o)
   unfolding observeOf
-  alike model m rep o = subst (λ (v : Verdict). Alike (S .rules) (orStopped (S .rules) model (seen o) v) (observeOf tables (b .holders) m o)) (rep .verdict′) (look (eqb (m .verdict) 2) refl (eqb (m .verdict) 1))
+  alike model m rep o = subst (λ (v : Verdict). Alike (S .rules) (orStopped (S .rules) model (seen o) v) (observeOf (b .table) m o)) (rep .verdict′) (look (eqb (m .verdict) 2) refl (eqb (m .verdict) 1))
     where
-      look : (x : Bool) → eqb (m .verdict) 2 ≡ x → (y : Bool) → Alike (S .rules) (orStopped (S .rules) model (seen o) (cond x (brokenAt (m .taken) (m .mask)) (cond y (someOpen (m .mask)) allWhole))) (cond x (record { monitor = m; answer = Broken (m .taken) (m .mask) }) (lookedOf tables (b .holders) m o))
+      look : (x : Bool) → eqb (m .verdict) 2 ≡ x → (y : Bool) → Alike (S .rules) (orStopped (S .rules) model (seen o) (cond x (brokenAt (m .taken) (m .mask)) (cond y (someOpen (m .mask)) allWhole))) (cond x (record { monitor = m; answer = Broken (m .taken) (m .mask) }) (lookedOf (b .table) m o))
       look true q y = record { answer = refl; represents = rep }
       look false q true = looked model m rep q o
       look false q false = looked model m rep q o
@@ -203,7 +194,7 @@ module _ (S : Sheet) (formed : WellFormedSheet S) (b : Book) (looks : Looks S b)
 
 module _ (S : Sheet) (k : Kept) (b : Book) (m : Held) (f : Tracks S k b m) (o : Observation) (oracle : Oracle) (right : Right (S .rules) oracle) where
   abbrev r : Observed
-  r = observeOf (record { heads = b .heads; fragments = b .fragments; names = b .names; ranges = b .ranges }) (b .holders) m o
+  r = observeOf (b .table) m o
 
   abbrev turn : J.Turn
   turn = judge oracle k (seen o)
@@ -214,7 +205,7 @@ module _ (S : Sheet) (k : Kept) (b : Book) (m : Held) (f : Tracks S k b m) (o : 
   turn-is : judge (modelOracle (S .rules)) k (seen o) ≡ judge oracle k (seen o)
   turn-is = one-turn (S .rules) (modelOracle (S .rules)) oracle mine right k (seen o) (f .falls) .is
 
-  both : Alike (S .rules) (observe (S .rules) (f .model) (seen o)) (observeOf (record { heads = b .heads; fragments = b .fragments; names = b .names; ranges = b .ranges }) (b .holders) m o)
+  both : Alike (S .rules) (observe (S .rules) (f .model) (seen o)) (observeOf (b .table) m o)
   both = alike S (f .formed) b (f .looks) (f .model) m (f .represents) o
 
   pub observe-answers : said (r .answer) ≡ judge oracle k (seen o) .answer
@@ -234,7 +225,7 @@ module _ (S : Sheet) (k : Kept) (b : Book) (m : Held) (f : Tracks S k b m) (o : 
 
 -- what the code's observing promises follows from what it leaves
 promise : (b : Book) (before : List ℕ) (o : Observation) (a : Answer) (after : List ℕ)
-    → Leaves before (observeOf (record { heads = b .heads; fragments = b .fragments; names = b .names; ranges = b .ranges }) (b .holders) (heldBy before) o) a after → Observes b before o a after
+    → Leaves before (observeOf (b .table) (heldBy before) o) a after → Observes b before o a after
 promise b before o a after l = record {
   answers = λ S k f oracle right. ap (λ (x : Observed). said (x .answer)) (l .leaves (f .long)) ∙ observe-answers S k b (heldBy before) (f .tracks) o oracle right;
   follows = λ S k f oracle right. record {
@@ -244,8 +235,6 @@ promise b before o a after l = record {
   unchanged = l .unchanged;
 }
 
--- the same of the arrays that the call is lent
-pub lent-promise : (heads fragments names ranges holders before : List ℕ) (o : Observation) (a : Answer) (after : List ℕ)
-    → Leaves before (observeOf (record { heads = heads; fragments = fragments; names = names; ranges = ranges }) holders (heldBy before) o) a after
-    → ObservesLent heads fragments names ranges holders before o a after
-lent-promise heads fragments names ranges holders before o a after l b e = promise b before o a after (rw (e .heads′, e .fragments′, e .names′, e .ranges′, e .holders′) l)
+-- the same of the table that the call is lent
+pub lent-promise : (table before : List ℕ) (o : Observation) (a : Answer) (after : List ℕ) → Leaves before (observeOf table (heldBy before) o) a after → ObservesLent table before o a after
+lent-promise table before o a after l b e = promise b before o a after (rw e l)

@@ -21,8 +21,8 @@ same-numbers a b = ap (λ (m : Held). record { rules = m .rules; taken = m .take
 held-follows : (S : Sheet) (k : Kept) (b : Book) (m : Monitor) (w : List ℕ) → Holds w (numbersOf m) → Tracks S k b (numbersOf m) → Follows S k b w
 held-follows S k b m w h t = record { long = h .long; tracks = subst (Tracks S k b) (sym (h .held)) t }
 
-module _ {heads fragments names ranges holders before after : List ℕ} {m next : Monitor} {o : Observation} {a : Answer} where
-  pub turns : Holds before (numbersOf m) → ObservesLent heads fragments names ranges holders before o a after → numbersOf next ≡ heldBy after → TurnsLent heads fragments names ranges holders m o a next
+module _ {table before after : List ℕ} {m next : Monitor} {o : Observation} {a : Answer} where
+  pub turns : Holds before (numbersOf m) → ObservesLent table before o a after → numbersOf next ≡ heldBy after → TurnsLent table m o a next
   turns h observes e b lent =
       let p = observes b lent in
       record {
@@ -31,5 +31,5 @@ module _ {heads fragments names ranges holders before after : List ℕ} {m next 
         unchanged = λ n is. same-numbers next m (e ∙ ap heldBy (p .unchanged n is) ∙ h .held);
       }
 
-pub starts : {fragments w : List ℕ} {m : Monitor} → Freshes fragments w → numbersOf m ≡ heldBy w → Starts fragments m
-starts f e S b formed looks lent = subst (Tracks S _ b) (sym e) (f S b formed looks lent .tracks)
+pub starts : {w : List ℕ} {m : Monitor} → Freshes w → numbersOf m ≡ heldBy w → Starts m
+starts f e S b formed looks = subst (Tracks S _ b) (sym e) (f S b formed looks .tracks)
