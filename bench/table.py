@@ -13,8 +13,9 @@ from collections import defaultdict, namedtuple
 
 GUARDS = {'guard': 'guard', 'hand': 'C', 'hand_rs': 'Rust'}
 LEVELS = (2, 3)
-# a session's bits: one rule's state (fragment 8, states 8 x 8, count 16, end of P 32), and what all rules share (taken 32, latest 32, verdict 8, masks 16 + 16)
-RULE_BITS, SHARED_BITS = 120, 104
+# a session's bits: one rule's state (fragment 8, the name whose range counts 8, states 8 x 8, count 16, end of P 32), and what all rules share (taken 32, latest 32,
+# verdict 8, masks 16 + 16)
+RULE_BITS, SHARED_BITS = 128, 104
 
 Facts = namedtuple('Facts', 'number part title figure_ops figure_bits table_ops table_bits rules tables_bits')
 
