@@ -152,12 +152,14 @@ def array(values):
 
 
 def entry(c):
+    assert c.part != 'paper' or not any(FOREIGN in names_of(rule) for rule in c.sheet.rules)
     numbers = (c.figure or (0, 0)) + (c.table or (0, 0)) + (len(c.sheet.rules), tables_bits(c.sheet.rules))
     return '    {"%s", "%s", %s, %s, %s, %s},' % (
         c.part, c.title, array(written(c.sheet)[0]), array(c.opening), array(c.round), ', '.join(map(str, numbers)))
 
 
 if __name__ == '__main__':
+    print('enum { FOREIGN = %d }; /* a name that no rule of a paper\'s configuration has */\n' % FOREIGN)
     print('static const configuration configurations[] = {')
     for group in (general(), papers(), quiet()):
         for configuration in group:
