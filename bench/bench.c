@@ -184,42 +184,47 @@ static void time_configuration(unsigned number)
     drop_log(log);
 }
 
-/* ---- counts: each label is contestant, configuration, what was done and the number of records, with spaces between them */
+/* ---- counts */
 
-static void dump(const contestant *by, unsigned number, const char *what, size_t records)
+/* A dump's label is contestant, configuration, what was done and the number of records, with spaces between them. It is written before the counts are set to 0, so that
+ * nothing but the loop and the guard is in a dump. */
+static void count_from_here(char label[128], const contestant *by, unsigned number, const char *what, size_t records)
 {
-    char label[128];
-    snprintf(label, sizeof label, "%s %u %s %zu", by->name, number, what, records);
-    CALLGRIND_DUMP_STATS_AT(label);
+    snprintf(label, 128, "%s %u %s %zu", by->name, number, what, records);
+    CALLGRIND_ZERO_STATS;
 }
 
 /* Two lengths of each: their difference has no start-up in it. */
 static void count_means(const contestant *by, unsigned number)
 {
     const configuration *c = &configurations[number];
+    char label[128];
     for (size_t n = COUNTED_RECORDS; n <= 2 * COUNTED_RECORDS; n += COUNTED_RECORDS) {
         log_of log = make_log(c, n);
-        CALLGRIND_ZERO_STATS;
+        count_from_here(label, by, number, "run", log.count);
         run_log(by, c, log);
-        dump(by, number, "run", log.count);
+        CALLGRIND_DUMP_STATS_AT(label);
         open_session(by, c);
-        CALLGRIND_ZERO_STATS;
+        count_from_here(label, by, number, "live", log.count);
         live(by, c, log.records, log.count);
-        dump(by, number, "live", log.count);
+        CALLGRIND_DUMP_STATS_AT(label);
         drop_log(log);
     }
 }
 
-/* Each record of two rounds alone. */
+/* Each record of two rounds alone; then an event that concerns no rule, where it takes least: after a whole round no rule is open and no deadline runs. */
 static void count_each(const contestant *by, unsigned number)
 {
     const configuration *c = &configurations[number];
+    char label[128];
     log_of log = make_log(c, 2 * c->round_length);
+    const record foreign = {FOREIGN, (uint32_t)log.count};
     open_session(by, c);
-    for (size_t i = 0; i < log.count; i++) {
-        CALLGRIND_ZERO_STATS;
-        live(by, c, &log.records[i], 1);
-        dump(by, number, "each", i);
+    for (size_t i = 0; i <= log.count; i++) {
+        bool round = i < log.count;
+        count_from_here(label, by, number, round ? "each" : "foreign", i);
+        live(by, c, round ? &log.records[i] : &foreign, 1);
+        CALLGRIND_DUMP_STATS_AT(label);
     }
     drop_log(log);
 }

@@ -138,10 +138,13 @@ def quiet():
 
 # ---------------------------------------------------------------------------------------------
 
+def names_of(rule):
+    return [r.name for f in rule.p + rule.q for r in f.ranges] + ([] if rule.kind == TIMED else [rule.trigger])
+
+
 def tables_bits(rules):
-    """The bits of a book that one record's rules are read from: 64 a rule, 16 + 64 a fragment, 64 a range; a trigger is a fragment of one range."""
-    fragments = [f for r in rules for f in r.p + r.q + (() if r.kind == TIMED else (one(r.trigger),))]
-    return 64 * len(rules) + sum(16 + 64 + 64 * len(f.ranges) for f in fragments)
+    """What a book has of these rules alone, in bits: a cell of 64 for each name of a rule, its trigger included, and a word of 64 for its t."""
+    return sum(64 * len(names_of(rule)) + 64 for rule in rules)
 
 
 def array(values):
@@ -149,12 +152,14 @@ def array(values):
 
 
 def entry(c):
+    assert c.part != 'paper' or not any(FOREIGN in names_of(rule) for rule in c.sheet.rules)
     numbers = (c.figure or (0, 0)) + (c.table or (0, 0)) + (len(c.sheet.rules), tables_bits(c.sheet.rules))
     return '    {"%s", "%s", %s, %s, %s, %s},' % (
         c.part, c.title, array(written(c.sheet)[0]), array(c.opening), array(c.round), ', '.join(map(str, numbers)))
 
 
 if __name__ == '__main__':
+    print('enum { FOREIGN = %d }; /* a name that no rule of a paper\'s configuration has */\n' % FOREIGN)
     print('static const configuration configurations[] = {')
     for group in (general(), papers(), quiet()):
         for configuration in group:

@@ -1,7 +1,7 @@
 """Puts what `bench` measured into Markdown tables: python3 table.py FOLDER
 
-FOLDER has the file facts (what `bench facts` printed) and, for the levels 2 and 3 that hand.c was compiled at, timeN (what some runs of
-`bench time` printed) and the callgrind dumps of `bench count`, countsN.*.
+FOLDER has the files facts (what `bench facts` printed) and callers (what nm printed of bench.o) and, for the levels 2 and 3 that hand.c was compiled at,
+timeN (what some runs of `bench time` printed), codeN (what objdump printed of the program) and the callgrind dumps of `bench count`, countsN.*.
 """
 
 import glob
@@ -11,10 +11,14 @@ import re
 import sys
 from collections import defaultdict, namedtuple
 
+sys.dont_write_bytecode = True
+from operations import operations, read_callers, read_code
+
 GUARDS = {'guard': 'guard', 'hand': 'C', 'hand_rs': 'Rust'}
 LEVELS = (2, 3)
-# a session's bits: one rule's state (fragment 8, states 8 x 8, count 16, end of P 32), and what all rules share (taken 32, latest 32, verdict 8, masks 16 + 16)
-RULE_BITS, SHARED_BITS = 120, 104
+# a session's bits: one rule's state (fragment 8, the name whose range counts 8, states 8 x 8, count 16, end of P 32), and what all rules share (taken 32, latest 32,
+# verdict 8, masks 16 + 16)
+RULE_BITS, SHARED_BITS = 128, 104
 
 Facts = namedtuple('Facts', 'number part title figure_ops figure_bits table_ops table_bits rules tables_bits')
 
@@ -42,24 +46,34 @@ def read_times(path):
     return times
 
 
-def read_counts(pattern):
-    """{(what, guard, configuration): {records: instructions}}, from the label and the total of each dump."""
-    counts = defaultdict(dict)
+def read_dumps(pattern):
+    """The text of each dump, by its label: {(what, guard, configuration): {records: text}}."""
+    dumps = defaultdict(dict)
     for path in glob.glob(pattern):
         with open(path, encoding='utf-8') as f:
             text = f.read()
         label = re.search(r'^desc: Trigger: Client Request: (\S+) (\d+) (\S+) (\d+)$', text, re.M)
         if label:
             guard, number, what, records = label.groups()
-            counts[what, guard, int(number)][int(records)] = int(re.search(r'^(?:totals|summary): (\d+)', text, re.M).group(1))
-    return counts
+            dumps[what, guard, int(number)][int(records)] = text
+    return dumps
+
+
+def read_counts(dumps):
+    """Instructions: the total of each dump."""
+    return {key: {records: int(re.search(r'^(?:totals|summary): (\d+)', text, re.M).group(1)) for records, text in of.items()} for key, of in dumps.items()}
+
+
+def read_operations(dumps, code, callers):
+    """The operations of each record that was counted alone."""
+    return {key: {records: operations(text, code, callers) for records, text in of.items()} for key, of in dumps.items() if key[0] in ('each', 'foreign')}
 
 
 def means(counts):
     """Instructions per record: the difference of two lengths; for a session less that of the call that does nothing."""
     out = {}
     for key, of in counts.items():
-        if key[0] != 'each':
+        if key[0] in ('run', 'live'):
             (short, low), (long, high) = sorted(of.items())
             out[key] = (high - low) / (long - short)
     for way, guard, number in out:
@@ -72,6 +86,14 @@ def most(counts, guard, number):
     """The instructions of the costliest record of two rounds, less those of the call that does nothing."""
     each, nothing = counts['each', guard, number], counts['each', 'none', number]
     return max(each[i] - nothing[i] for i in each)
+
+
+def most_operations(ops, guard, number):
+    """The operations of the costliest record: of the whole call, and of the rule itself, which are the call's less those of an event that concerns no rule. What is
+    in that, the refusals 11 to 13, the count, the masks and the answer, has no counterpart in the papers' monitors, which watch one property and answer nothing."""
+    whole = max(ops['each', guard, number].values())
+    foreign, = ops['foreign', guard, number].values()
+    return whole, whole - foreign
 
 
 def typical(times):
@@ -103,39 +125,46 @@ def print_way(way, title, facts, times, mean):
     table(['configuration'] + head, [[f.title] + cells(times, way, f.number) + cells(mean, way, f.number) for f in facts])
 
 
-def paper_row(f, counts):
+def paper_row(f, counts, ops):
     state = RULE_BITS * f.rules + SHARED_BITS
     figure_ops, table_ops, figure_bits, table_bits = (str(n or '') for n in (f.figure_ops, f.table_ops, f.figure_bits, f.table_bits))
     instructions = [str(most(counts, g, f.number)) for g in GUARDS]
-    return [f.title] + instructions + [figure_ops, table_ops, str(state), str(state + f.tables_bits), figure_bits, table_bits]
+    (guard, rule), (c, _), (rust, _) = (most_operations(ops, g, f.number) for g in GUARDS)
+    return ([f.title] + instructions + [str(n) for n in (c, rust, guard, rule)] + [figure_ops, table_ops]
+            + [str(state), str(state + f.tables_bits), figure_bits, table_bits])
 
 
-def print_papers(facts, counts):
+def print_papers(facts, counts, ops):
     print('### The costliest record of a live session, beside the papers\' figures for their direct monitor\n')
-    head = [g + ' instr.' for g in GUARDS.values()] + ['Figure 6 ops', 'Table 7.2 ops', 'guard bits', 'with tables', 'Figure 6 bits', 'Table 7.2 bits']
-    table(['configuration'] + head, [paper_row(f, counts) for f in facts if f.part == 'paper'])
+    head = ([g + ' instr.' for g in GUARDS.values()] + ['C ops', 'Rust ops', 'guard ops', 'rule ops', 'Figure 6 ops', 'Table 7.2 ops']
+            + ['guard bits', 'with tables', 'Figure 6 bits', 'Table 7.2 bits'])
+    table(['configuration'] + head, [paper_row(f, counts, ops) for f in facts if f.part == 'paper'])
 
 
-def print_reach(facts, times, mean, counts):
+def print_reach(facts, times, mean, ops):
     """The two goals: guard/C at most 1.2, and no record above a paper's operations."""
     for unit, values in (('nanoseconds', times), ('instructions', mean)):
         ratio, way, f = max(((values[way, 'guard', f.number] / values[way, 'hand', f.number], way, f) for way in ('run', 'live') for f in facts),
                             key=lambda x: x[0])
         print('- Largest guard/C in %s: %.2f (%s, %s).' % (unit, ratio, way, f.title))
-    above = [f.title for f in facts if f.part == 'paper' and most(counts, 'guard', f.number) > min(n for n in (f.figure_ops, f.table_ops) if n)]
-    print('- Configurations whose costliest record has more instructions than a paper gives operations: %s.' % ('; '.join(above) or 'none'))
+    for which, what in ((1, 'the rule itself'), (0, 'the whole call')):
+        above = [f.title for f in facts if f.part == 'paper'
+                 and most_operations(ops, 'guard', f.number)[which] > min(n for n in (f.figure_ops, f.table_ops) if n)]
+        print('- Configurations whose costliest record has more operations than a paper gives, counting %s: %s.' % (what, '; '.join(above) or 'none'))
 
 
 def main(folder):
     facts = read_facts(folder)
     times = {level: read_times(os.path.join(folder, 'time%d' % level)) for level in LEVELS}
     level = min(LEVELS, key=lambda n: typical(times[n]))
-    counts = read_counts(os.path.join(folder, 'counts%d.*' % level))
+    dumps = read_dumps(os.path.join(folder, 'counts%d.*' % level))
+    counts = read_counts(dumps)
+    ops = read_operations(dumps, read_code(os.path.join(folder, 'code%d' % level)), read_callers(os.path.join(folder, 'callers')))
     mean = means(counts)
     print_way('run', 'Log run, per record', facts, times[level], mean)
     print_way('live', 'Live session, per record', facts, times[level], mean)
-    print_papers(facts, counts)
-    print_reach(facts, times[level], mean, counts)
+    print_papers(facts, counts, ops)
+    print_reach(facts, times[level], mean, ops)
     print('- The host\'s loop with a call that does nothing: %.1f ns and %.1f instructions per record.'
           % (times[level]['live', 'none', 0], mean['live', 'none', 0]))
     print('- hand.c is compiled at -O%d, the faster: its mean time is %s.'

@@ -50,17 +50,13 @@ enum {
 uint32_t guard_run(const uint8_t *sheet, size_t sheet_length, const uint8_t *log, size_t log_length, uint32_t budget, uint8_t *out, size_t out_length);
 
 /* ---- a live session
- * The host lends the memory of one book (19,200 bytes, which guard_open writes and nothing else changes) and of one monitor for each session under it (272 bytes).
+ * The host lends the memory of one book (8,832 bytes, which guard_open writes and nothing else changes) and of one monitor for each session under it (272 bytes).
  * The words are the guard's own: a host stores and copies them, and does not read them. Every bit pattern is safe: for a book or a monitor that these calls did not make,
- * or a monitor of another book, the answer is free, the call returns, and it writes nothing but the monitor. Sheet, book and monitor do not overlap. Threads may share an
- * opened book; a monitor belongs to one thread at a time. */
+ * or a monitor that has observed under another book, the answer is free, the call returns, and it writes nothing but the monitor. Sheet, book and monitor do not overlap.
+ * Threads may share an opened book; a monitor belongs to one thread at a time. */
 
 typedef struct guard_book {
-    uint64_t heads[16];
-    uint16_t fragments[256];
-    uint64_t names[256];
-    uint64_t ranges[2048];
-    uint16_t holders[64];
+    uint64_t words[1104];
 } guard_book;
 
 typedef struct guard_monitor {
@@ -76,14 +72,11 @@ typedef struct guard_answer {
     uint32_t place;
 } guard_answer;
 
-/* The calls as the library has them: a book's five arrays one by one, and an answer's four fields in one number, lowest first. The observing call takes a record's name:
- * GUARD_CLOCK is a clock reading. Use the functions below. */
-#define GUARD_CLOCK 255u
-uint64_t guard_lent_open(const uint8_t *sheet, size_t sheet_length, uint64_t *heads, uint16_t *fragments, uint64_t *names, uint64_t *ranges, uint16_t *holders,
-                         uint64_t *monitor);
-void guard_lent_start(const uint16_t *fragments, uint64_t *monitor);
-uint64_t guard_lent_observe(uint64_t *monitor, uint32_t name, uint32_t time, const uint16_t *holders, const uint64_t *heads, const uint16_t *fragments, const uint64_t *names,
-                            const uint64_t *ranges);
+/* The calls as the library has them: a book is 1,104 words, a monitor 34, and an answer's four fields are one number, lowest first. Use the functions below. */
+uint64_t guard_lent_open(const uint8_t *sheet, size_t sheet_length, uint64_t *book, uint64_t *monitor);
+void guard_lent_start(uint64_t *monitor);
+uint64_t guard_lent_event(const uint64_t *book, uint64_t *monitor, uint32_t name, uint32_t time);
+uint64_t guard_lent_clock(const uint64_t *book, uint64_t *monitor, uint32_t time);
 uint64_t guard_lent_verdict(const uint64_t *monitor);
 uint32_t guard_lent_taken(const uint64_t *monitor);
 
@@ -97,31 +90,29 @@ static inline guard_answer guard_answer_of(uint64_t word)
     return a;
 }
 
-/* Reads a sheet into *book and makes *monitor a fresh monitor for it. The answer is whole, or the sheet's refusal with the faulty field's offset: then neither is changed. */
+/* Reads a sheet into *book and makes *monitor a fresh monitor. The answer is whole, or the sheet's refusal with the faulty field's offset: then neither is changed. */
 static inline guard_answer guard_open(guard_book *book, guard_monitor *monitor, const uint8_t *sheet, size_t sheet_length)
 {
-    return guard_answer_of(guard_lent_open(sheet, sheet_length, book->heads, book->fragments, book->names, book->ranges, book->holders, monitor->words));
+    return guard_answer_of(guard_lent_open(sheet, sheet_length, book->words, monitor->words));
 }
 
-/* Makes *monitor a fresh monitor for an opened book: a second session under it, or the same one from the start. */
-static inline void guard_start(const guard_book *book, guard_monitor *monitor)
+/* Makes *monitor a fresh monitor, whatever it was: a second session under a book, or the same one from the start. It is the same for every book. */
+static inline void guard_start(guard_monitor *monitor)
 {
-    guard_lent_start(book->fragments, monitor->words);
+    guard_lent_start(monitor->words);
 }
 
-/* One call between host and plugin, at a time in milliseconds. A name of 64 or more is refused (12), and so is a time before the latest one (11). After a break every
- * observation gets the same answer. */
+/* One call between host and plugin, at a time in milliseconds. A name of 64 or more is refused (12), a log's FF too, and so is a time before the latest one (11). After a
+ * break every observation gets the same answer. */
 static inline guard_answer guard_event(const guard_book *book, guard_monitor *monitor, uint32_t name, uint32_t time)
 {
-    /* 255 is no name here, and 256 is refused as it */
-    return guard_answer_of(
-        guard_lent_observe(monitor->words, name == GUARD_CLOCK ? GUARD_CLOCK + 1 : name, time, book->holders, book->heads, book->fragments, book->names, book->ranges));
+    return guard_answer_of(guard_lent_event(book->words, monitor->words, name, time));
 }
 
 /* A time alone: what a host's timer calls, so that a deadline is noticed while no call is made. */
 static inline guard_answer guard_clock(const guard_book *book, guard_monitor *monitor, uint32_t time)
 {
-    return guard_answer_of(guard_lent_observe(monitor->words, GUARD_CLOCK, time, book->holders, book->heads, book->fragments, book->names, book->ranges));
+    return guard_answer_of(guard_lent_clock(book->words, monitor->words, time));
 }
 
 /* The verdict that the monitor holds: whole, open or broken. */

@@ -165,7 +165,7 @@ static void check_live(long number, const struct reference_case *c, const guard_
     n->lists++, n->answers += (long)c->count, n->wrong_answers += wrong;
     if (wrong)
         n->wrong_lists += differs("a case live", number);
-    guard_start(book, monitor);
+    guard_start(monitor);
     if (c->log_length % 5 == 0) {
         uint8_t out[12];
         n->runs++;

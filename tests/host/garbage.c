@@ -109,17 +109,16 @@ struct tally {
     long observations, looks, wrong_answers, wrong_touches, wrong_looks, answers[4];
 };
 
-/* The verdict, which is whole, open or broken, and the count are read, and the monitor stays; then a fresh start from whatever book it is. */
+/* The verdict, which is whole, open or broken, and the count are read, and the monitor stays; then a fresh start: whole and nothing taken, whatever stood there. */
 static void look(const struct desk *d, struct tally *n)
 {
     guard_monitor old = *d->monitor;
     guard_answer before = guard_verdict(d->monitor);
     (void)guard_taken(d->monitor);
     n->wrong_touches += memcmp(&old, d->monitor, sizeof old) != 0;
-    guard_start(d->book, d->monitor);
-    guard_answer after = guard_verdict(d->monitor);
+    guard_start(d->monitor);
     n->looks++;
-    if (before.answer > GUARD_BROKEN || before.refusal != 0 || after.answer > GUARD_BROKEN || after.refusal != 0)
+    if (before.answer > GUARD_BROKEN || before.refusal != 0 || !same_answer(guard_verdict(d->monitor), answer(GUARD_WHOLE, 0, 0, 0)) || guard_taken(d->monitor) != 0)
         n->wrong_looks += differs("a verdict of garbage", n->observations);
 }
 

@@ -3,7 +3,7 @@
 
 #include <cstdio>
 
-static_assert(sizeof(guard_book) == 19200 && sizeof(guard_monitor) == 272 && sizeof(guard_answer) == 8, "the sizes that guard.h gives");
+static_assert(sizeof(guard_book) == 8832 && sizeof(guard_monitor) == 272 && sizeof(guard_answer) == 8, "the sizes that guard.h gives");
 
 int main()
 {
@@ -18,7 +18,7 @@ int main()
     wrong += guard_clock(&book, &monitor, 10).answer != GUARD_WHOLE;
     wrong += guard_event(&book, &monitor, 2, 10).place != 5;
     wrong += guard_verdict(&monitor).answer != GUARD_BROKEN || guard_taken(&monitor) != 5;
-    guard_start(&book, &monitor);
+    guard_start(&monitor);
     wrong += guard_taken(&monitor) != 0;
     uint8_t out[GUARD_OUTPUT_BYTES];
     wrong += guard_run(sheet, sizeof sheet, nullptr, 0, 1, out, sizeof out) != 0 || out[0] != GUARD_WHOLE;

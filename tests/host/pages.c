@@ -118,50 +118,35 @@ static void check_short_outputs(void)
     tell("short outputs at a page's edge", count, wrong);
 }
 
-/* ---- each array of a book at an edge of its own, so that none of them hides a read outside another */
-
-enum { HEADS, FRAGMENTS, NAMES, RANGES, HOLDERS, ARRAYS };
-
-static const size_t sizes[ARRAYS] = {sizeof(uint64_t[16]), sizeof(uint16_t[256]), sizeof(uint64_t[256]), sizeof(uint64_t[2048]), sizeof(uint16_t[64])};
+/* ---- the library's own calls: the book's array and the monitor's at an edge, and what a call only reads can't be written */
 
 struct lent {
-    struct pages arrays[ARRAYS], monitors;
-    uint64_t *heads, *names, *ranges, *monitor;
-    uint16_t *fragments, *holders;
+    struct pages books, monitors;
+    uint64_t *book, *monitor;
 };
 
 static struct lent lent_at(int at_end)
 {
-    struct lent l;
-    for (int a = 0; a < ARRAYS; a++)
-        l.arrays[a] = pages_for(sizes[a]);
-    l.monitors = pages_for(sizeof(guard_monitor));
-    l.heads = (void *)edge(l.arrays[HEADS], at_end, sizes[HEADS]);
-    l.fragments = (void *)edge(l.arrays[FRAGMENTS], at_end, sizes[FRAGMENTS]);
-    l.names = (void *)edge(l.arrays[NAMES], at_end, sizes[NAMES]);
-    l.ranges = (void *)edge(l.arrays[RANGES], at_end, sizes[RANGES]);
-    l.holders = (void *)edge(l.arrays[HOLDERS], at_end, sizes[HOLDERS]);
+    struct lent l = {pages_for(sizeof(guard_book)), pages_for(sizeof(guard_monitor)), NULL, NULL};
+    l.book = (void *)edge(l.books, at_end, sizeof(guard_book));
     l.monitor = (void *)edge(l.monitors, at_end, sizeof(guard_monitor));
     return l;
 }
 
 static guard_answer observe_lent(const struct lent *l, struct observation o)
 {
-    uint32_t name = o.clock ? GUARD_CLOCK : o.name == GUARD_CLOCK ? GUARD_CLOCK + 1 : o.name;
-    return guard_answer_of(guard_lent_observe(l->monitor, name, o.time, l->holders, l->heads, l->fragments, l->names, l->ranges));
+    return guard_answer_of(o.clock ? guard_lent_clock(l->book, l->monitor, o.time) : guard_lent_event(l->book, l->monitor, o.name, o.time));
 }
 
 static long wrong_lent(const struct reference_case *c, const struct lent *l)
 {
-    for (int a = 0; a < ARRAYS; a++)
-        writable(l->arrays[a]);
-    guard_answer opened = guard_answer_of(guard_lent_open(c->sheet, c->sheet_length, l->heads, l->fragments, l->names, l->ranges, l->holders, l->monitor));
+    writable(l->books);
+    guard_answer opened = guard_answer_of(guard_lent_open(c->sheet, c->sheet_length, l->book, l->monitor));
     long wrong = !same_answer(opened, c->opened);
     if (!opens(c))
         return wrong;
-    for (int a = 0; a < ARRAYS; a++)
-        read_only(l->arrays[a]);
-    guard_lent_start(l->fragments, l->monitor);
+    read_only(l->books);
+    guard_lent_start(l->monitor);
     for (size_t i = 0; c->before == 0 && i < c->count; i++)
         wrong += !same_answer(observe_lent(l, observation_of(c, i)), observation_of(c, i).due);
     read_only(l->monitors);
@@ -170,16 +155,16 @@ static long wrong_lent(const struct reference_case *c, const struct lent *l)
     return wrong;
 }
 
-static void check_arrays_at_edges(void)
+static void check_lent_at_edges(void)
 {
     long count = 0, wrong = 0;
     for (int at_end = 0; at_end < 2; at_end++) {
         struct lent l = lent_at(at_end);
-        for (size_t i = (size_t)at_end; i < case_count; i += 2, count++)
+        for (size_t i = 0; i < case_count; i++, count++)
             if (wrong_lent(&cases[i], &l))
-                wrong += differs("a case with each array at a page's edge", (long)i);
+                wrong += differs("a case by the library's own calls at a page's edge", (long)i);
     }
-    tell("cases with each of a book's arrays at a page's edge of its own", count, wrong);
+    tell("cases by the library's own calls, book and monitor at either edge of a page", count, wrong);
 }
 
 /* ---- what a run does not look at */
@@ -217,6 +202,6 @@ void check_pages(void)
     check_edges();
     check_cases_at_edges();
     check_short_outputs();
-    check_arrays_at_edges();
+    check_lent_at_edges();
     check_unread();
 }

@@ -127,11 +127,14 @@ static void check_stopped(void)
     tell("observations of a stopped book", steps, wrong);
 }
 
-/* guard_start gives what guard_open gives, whatever stood there: here by the session's answers, below by every byte. */
+/* guard_start gives what guard_open gives, whatever stood there: by the session's answers and by every byte, which are the same for every book. */
 static void check_start(void)
 {
     static guard_book book;
+    guard_monitor fresh;
     long count = 0, wrong = 0;
+    scramble(&fresh, sizeof fresh);
+    guard_start(&fresh);
     for (size_t i = 0; i < case_count; i++) {
         const struct reference_case *c = &cases[i];
         guard_monitor first, again;
@@ -142,9 +145,10 @@ static void check_start(void)
             scramble(&again, sizeof again);
         else
             again = first, wrong_live(c, &book, &again);
-        guard_start(&book, &again);
+        guard_start(&again);
         count++;
-        if (memcmp(&first, &again, sizeof first) != 0 || guard_taken(&again) != 0 || !same_answer(guard_verdict(&again), whole()) || wrong_live(c, &book, &again))
+        if (memcmp(&first, &fresh, sizeof first) != 0 || memcmp(&again, &fresh, sizeof again) != 0 || guard_taken(&again) != 0 ||
+            !same_answer(guard_verdict(&again), whole()) || wrong_live(c, &book, &again))
             wrong += differs("a fresh session of a case", (long)i);
     }
     tell("fresh starts", count, wrong);
@@ -161,7 +165,7 @@ static void check_two(void)
         if (!opens(c) || c->before)
             continue;
         guard_open(&book, &one, c->sheet, c->sheet_length);
-        guard_start(&book, &two);
+        guard_start(&two);
         size_t lead = c->count / 2;
         for (size_t k = 0; k < c->count + lead; k++) {
             if (k < c->count)

@@ -4,49 +4,15 @@
 /// A monitor's words, which are the guard's own: a host stores and copies them, and does not read them.
 pub type Words = [u64; 34];
 
-/// The five arrays of a book, as `guard_book` in `include/guard.h` has them.
-#[derive(Clone)]
-pub(crate) struct Tables {
-    heads: [u64; 16],
-    fragments: [u16; 256],
-    names: [u64; 256],
-    ranges: [u64; 2048],
-    holders: [u16; 64],
-}
-
-impl Tables {
-    pub(crate) const EMPTY: Tables = Tables {
-        heads: [0; 16],
-        fragments: [0; 256],
-        names: [0; 256],
-        ranges: [0; 2048],
-        holders: [0; 64],
-    };
-}
+/// A book's words, as `guard_book` in `include/guard.h` has them.
+pub(crate) type Tables = [u64; 1104];
 
 extern "C" {
     fn guard_run(sheet: *const u8, sheet_length: usize, log: *const u8, log_length: usize, budget: u32, out: *mut u8, out_length: usize) -> u32;
-    fn guard_lent_open(
-        sheet: *const u8,
-        sheet_length: usize,
-        heads: *mut u64,
-        fragments: *mut u16,
-        names: *mut u64,
-        ranges: *mut u64,
-        holders: *mut u16,
-        monitor: *mut u64,
-    ) -> u64;
-    fn guard_lent_start(fragments: *const u16, monitor: *mut u64);
-    fn guard_lent_observe(
-        monitor: *mut u64,
-        name: u32,
-        time: u32,
-        holders: *const u16,
-        heads: *const u64,
-        fragments: *const u16,
-        names: *const u64,
-        ranges: *const u64,
-    ) -> u64;
+    fn guard_lent_open(sheet: *const u8, sheet_length: usize, book: *mut u64, monitor: *mut u64) -> u64;
+    fn guard_lent_start(monitor: *mut u64);
+    fn guard_lent_event(book: *const u64, monitor: *mut u64, name: u32, time: u32) -> u64;
+    fn guard_lent_clock(book: *const u64, monitor: *mut u64, time: u32) -> u64;
     fn guard_lent_verdict(monitor: *const u64) -> u64;
     fn guard_lent_taken(monitor: *const u64) -> u32;
 }
@@ -57,56 +23,28 @@ pub(crate) fn call(sheet: &[u8], log: &[u8], budget: u32, out: &mut [u8]) -> u32
     unsafe { guard_run(sheet.as_ptr(), sheet.len(), log.as_ptr(), log.len(), budget, out.as_mut_ptr(), out.len()) }
 }
 
-/// Reads a sheet into the arrays and makes a fresh monitor for them; a refused sheet changes neither.
+/// Reads a sheet into a book's words and makes a fresh monitor; a refused sheet changes neither.
 pub(crate) fn open(sheet: &[u8], tables: &mut Tables, monitor: &mut Words) -> u64 {
-    // SAFETY: the sheet's pointer comes with its length; the arrays have the lengths that the call wants, by their types; all are distinct, since the written ones are borrowed mutably.
-    unsafe {
-        guard_lent_open(
-            sheet.as_ptr(),
-            sheet.len(),
-            tables.heads.as_mut_ptr(),
-            tables.fragments.as_mut_ptr(),
-            tables.names.as_mut_ptr(),
-            tables.ranges.as_mut_ptr(),
-            tables.holders.as_mut_ptr(),
-            monitor.as_mut_ptr(),
-        )
-    }
+    // SAFETY: the sheet's pointer comes with its length; both arrays have the lengths that the call wants, by their types; all are distinct, since those are borrowed mutably.
+    unsafe { guard_lent_open(sheet.as_ptr(), sheet.len(), tables.as_mut_ptr(), monitor.as_mut_ptr()) }
 }
 
-/// Makes a fresh monitor for the arrays.
-pub(crate) fn start(tables: &Tables, monitor: &mut Words) {
-    // SAFETY: both arrays have the lengths that the call wants, by their types; the monitor, borrowed mutably, is apart from the book.
-    unsafe { guard_lent_start(tables.fragments.as_ptr(), monitor.as_mut_ptr()) }
+/// Makes a fresh monitor, the same for every book.
+pub(crate) fn start(monitor: &mut Words) {
+    // SAFETY: the monitor has the length that the call wants, by its type, and is borrowed mutably.
+    unsafe { guard_lent_start(monitor.as_mut_ptr()) }
 }
 
-/// The name of a clock reading, as in a log.
-const CLOCK: u32 = 255;
-
-/// One event. 255 is no name here, and 256 is refused as it.
+/// One event. Every name of 64 or more is refused, 255 too.
 pub(crate) fn event(tables: &Tables, monitor: &mut Words, name: u32, time: u32) -> u64 {
-    observe(tables, monitor, if name == CLOCK { CLOCK + 1 } else { name }, time)
+    // SAFETY: both arrays have the lengths that the call wants, by their types; it only reads the book, and the monitor, borrowed mutably, is apart from it.
+    unsafe { guard_lent_event(tables.as_ptr(), monitor.as_mut_ptr(), name, time) }
 }
 
 /// One clock reading.
 pub(crate) fn clock(tables: &Tables, monitor: &mut Words, time: u32) -> u64 {
-    observe(tables, monitor, CLOCK, time)
-}
-
-fn observe(tables: &Tables, monitor: &mut Words, name: u32, time: u32) -> u64 {
-    // SAFETY: the arrays have the lengths that the call wants, by their types, and it only reads them; the monitor, borrowed mutably, is apart from them.
-    unsafe {
-        guard_lent_observe(
-            monitor.as_mut_ptr(),
-            name,
-            time,
-            tables.holders.as_ptr(),
-            tables.heads.as_ptr(),
-            tables.fragments.as_ptr(),
-            tables.names.as_ptr(),
-            tables.ranges.as_ptr(),
-        )
-    }
+    // SAFETY: as for `event`.
+    unsafe { guard_lent_clock(tables.as_ptr(), monitor.as_mut_ptr(), time) }
 }
 
 /// The verdict that a monitor holds.
@@ -127,7 +65,7 @@ mod tests {
 
     #[test]
     fn the_sizes_of_the_header() {
-        assert_eq!(std::mem::size_of::<Tables>(), 19200);
+        assert_eq!(std::mem::size_of::<Tables>(), 8832);
         assert_eq!(std::mem::size_of::<Words>(), 272);
     }
 
@@ -150,18 +88,11 @@ mod tests {
 
     #[test]
     fn a_refused_sheet_changes_nothing() {
-        let mut tables = Tables::EMPTY;
-        tables.heads.fill(0x1234_5678_9ABC_DEF0);
-        tables.fragments.fill(0x1357);
-        tables.names.fill(0x2468_ACE0_1357_9BDF);
-        tables.ranges.fill(0x0246_8ACE_1357_9BDF);
-        tables.holders.fill(0xFEDC);
-        let old = tables.clone();
+        let old: Tables = std::array::from_fn(|i| 0x9E37_79B9_7F4A_7C15_u64.wrapping_mul(i as u64 + 1));
+        let mut tables = old;
         let mut monitor: Words = [0x0F1E_2D3C_4B5A_6978; 34];
         assert_eq!(open(b"LOC\x01\0", &mut tables, &mut monitor), 3 | 2 << 8, "refused, 2, at 0");
         assert_eq!(monitor, [0x0F1E_2D3C_4B5A_6978; 34]);
-        assert_eq!((tables.heads, tables.holders), (old.heads, old.holders));
-        assert_eq!((tables.fragments, tables.names), (old.fragments, old.names));
-        assert_eq!(tables.ranges, old.ranges);
+        assert_eq!(tables, old);
     }
 }

@@ -23,7 +23,7 @@ impl Book {
     /// assert_eq!(Book::open(b"LOL").unwrap_err(), Refusal::Mark { place: 0 });
     /// ```
     pub fn open(sheet: &[u8]) -> Result<Book, Refusal> {
-        let mut tables = Box::new(Tables::EMPTY);
+        let mut tables = Box::new([0; 1104]);
         let mut monitor = [0; 34];
         let opened = answer(ffi::open(sheet, &mut tables, &mut monitor), true);
         opened.map(|_| Book { tables })
@@ -95,7 +95,7 @@ impl<B: Borrow<Book>> Session<B> {
         session
     }
 
-    /// Goes on from stored words, those of [`words`](Session::words) under an equal book. For any others the verdicts are free, and nothing else happens.
+    /// Goes on from stored words, those of [`words`](Session::words) under an equal book, or a fresh session's under any. For any others the verdicts are free, and nothing else happens.
     pub fn resume(book: B, words: Words) -> Session<B> {
         Session { book, monitor: words }
     }
@@ -107,7 +107,7 @@ impl<B: Borrow<Book>> Session<B> {
 
     /// The same session from the start.
     pub fn restart(&mut self) {
-        ffi::start(&self.book.borrow().tables, &mut self.monitor);
+        ffi::start(&mut self.monitor);
     }
 
     /// One call between host and plugin, at a time in milliseconds. After a break every observation gets the same answer, unchecked.
