@@ -28,9 +28,8 @@ use Rattle.book.specs.Looks.{Looks}
 use Rattle.book.specs.declared.Book.{Book}
 use Rattle.masks.proofs.Statuses.{member-mask}
 use Rattle.tables.specs.Cells.{maskIn}
-use Rattle.step.specs.Shows.{Shows}
 use Rattle.step.proofs.Status.{running}
-use Rattle.words.specs.Words.{noState, Held, heldBy}
+use Rattle.words.specs.Words.{Held, heldBy}
 use Rattle.rules.specs.Pass.{Pass, passOf}
 use Rattle.observing.specs.Observe.{Observed, judgedOf, refusedOf, takenOf, lookedOf, observeOf}
 use Rattle.observing.specs.Leaving.{Leaves}

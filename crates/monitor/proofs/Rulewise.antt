@@ -19,7 +19,7 @@ use Rattle.step.specs.declared.RuleState.{RuleState}
 use Rattle.step.specs.declared.Stepped.{Stepped}
 use Rattle.tables.specs.Cells.{fragmentIn, indexIn, roleIn, beforeIn, limitAt, limitIn, HoldsRule}
 use Rattle.fragment.specs.Fragments.{begunOf, completeOf, growsOf}
-use Rattle.deadline.specs.Deadlines.{dueOf, pastOf, lateOf}
+use Rattle.deadline.specs.Deadlines.{dueOf, lateOf}
 use Rattle.step.specs.Steps.{brokenOf, standingOf, stoodOf, beginOf, movedBy, longerOf, otherOf, passOf, cellIn, actOf}
 use Rattle.step.specs.Shows.{Sound, Shows}
 use Rattle.step.proofs.Roles.{statusIn}

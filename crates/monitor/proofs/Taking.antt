@@ -1,9 +1,9 @@
 -- An observation that is taken: the pass over the sixteen rules gives the model's states, and its masks are the judge's masks of the new statuses.
 -- Assumes nothing.
 use mathlib.Core.Path.{_≡_, refl, sym, _∙_, ap, ap₂, subst}
-use mathlib.Core.Bool.{Bool, true, false, cond, not, _&&_, _||_}
+use mathlib.Core.Bool.{Bool, true, false, cond, _&&_, _||_}
 use mathlib.Core.List.{List, [], _∷_}
-use Prim.Native.Nat.{ℕ, zero, suc, _+_, _^_, _≤_, _<_}
+use Prim.Native.Nat.{ℕ, zero, suc, _^_, _≤_, _<_}
 use native.Mathlib.Nat.{not-suc-le-zero, lt-of-lt-of-le, pow-le-pow-right}
 use native.Mathlib.Omega.{arith}
 use lib.Dec.{T, ltb}
@@ -22,7 +22,7 @@ use Rattle.masks.specs.Masks.{maskN}
 use Rattle.masks.proofs.Members.{same-members, maskN-below, member-maskN, member-maskN-past}
 use Rattle.masks.proofs.Statuses.{member-mask, mask-below, member-mask-past}
 use Rattle.step.specs.declared.RuleState.{RuleState}
-use Rattle.fragment.specs.Upto.{mapN, length-mapN}
+use Rattle.fragment.specs.Upto.{length-mapN}
 use Rattle.tables.specs.Cells.{HoldsRule}
 use Rattle.step.specs.Shows.{Sound, Shows}
 use Rattle.step.proofs.Status.{running}

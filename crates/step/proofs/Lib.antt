@@ -3,5 +3,8 @@ mod Indices
 mod Ranges
 pub mod Roles
 pub mod Status
+pub mod Settled
+mod First
+mod Within
 pub mod Links
 pub mod Sound

@@ -2,66 +2,39 @@
 -- Of a rule that breaks only that is said, since its state is not looked at any more.
 -- Assumes nothing.
 use mathlib.Core.Path.{_≡_, refl, sym, _∙_, ap, ap₂, subst}
-use mathlib.Core.Logic.{_⊎_, inl, inr, _≢_}
-use mathlib.Core.Bool.{Bool, true, false, cond, not, _&&_, _||_, and-false}
-use mathlib.Core.List.{List, [], _∷_, map}
-use Prim.Native.Nat.{ℕ, zero, suc, _+_, _%_, _≤_, _<_}
+use mathlib.Core.Bool.{Bool, true, false, cond, not, _&&_, and-false}
+use mathlib.Core.List.{List}
+use Prim.Native.Nat.{ℕ, _+_, _≤_, _<_}
 use native.Mathlib.Nat.{mod-eq-of-lt}
-use native.Mathlib.Numerals.{add-one}
 use native.Mathlib.Omega.{arith}
-use lib.Dec.{T, leb, ltb, eqb, T-not, not-T}
-use lib.ListN.{length, getD, set, List·getD-map, length-map, length-set}
-use lib.Seq.{getD-set-same, getD-set-other}
-use borrow.Author.Tests.{le-leb, lt-leb, leb-true, leb-false, ltb-true, ltb-false, eq-eqb, ne-eqb, eqb-true, eqb-false}
+use lib.Dec.{T, ltb, eqb, not-T}
+use lib.ListN.{length, getD}
+use borrow.Author.Tests.{lt-leb, eq-eqb, ne-eqb, eqb-true, eqb-false}
 use Rattle.pattern.specs.Lists.{In, isIn, anyOf}
-use Rattle.pattern.specs.Meaning.{Event, Range, fragmentNames, Kind, once, repeated, timed, Rule, namesOf}
-use Rattle.pattern.specs.Recogniser.{State, idle, unbegun, waiting, counting, done, error, stateNumber, Class, own, sibling, next, other, hasEnough, hasRoom, move, isUnbegun, isError, Slot, slots, moves, counts, notBegun, within, erred, complete, canGrow}
-use Rattle.pattern.specs.Model.{roundOf, inTime, isOnce, fragmentAt, has, isLast, following, afterP, slotsOf, joinOf, fresh, released, late, classOf, endAfter, begin, moved, passes, stay, step, atRest, statusAt, pressed}
+use Rattle.pattern.specs.Meaning.{Event, Range, Kind, once, repeated, timed, Rule, namesOf}
+use Rattle.pattern.specs.Recogniser.{State, unbegun, next, other, move, isUnbegun, isError, Slot, slots, notBegun, within, erred, complete}
+use Rattle.pattern.specs.Model.{roundOf, inTime, isOnce, fragmentAt, has, following, afterP, slotsOf, joinOf, fresh, released, late, classOf, begin, moved, stay, step, atRest, pressed}
 use Rattle.pattern.specs.Model as M
-use Rattle.pattern.proofs.Basics.{either-r, is-true, is-false, any←, isIn←, zero-one}
-use Rattle.pattern.proofs.Standing.{itself}
-use Rattle.pattern.proofs.Running.{slot, Calm, within-own, within-sibling, Fine, Waits, count-longer, count-begun}
-use Rattle.pattern.proofs.Fragment.{X, Checked, Held, start-count}
-use Rattle.pattern.proofs.Keeps.{Erred, stays-erred, held, moves-same, in-moved, after, late-errs, inside-is, inside-errs, foreign-errs, passing-is, incomplete-errs}
-use Rattle.recogniser.specs.Numbers.{stateOf, nextState}
+use Rattle.pattern.proofs.Basics.{either-r, is-true, is-false, any←}
+use Rattle.pattern.proofs.Running.{slot}
+use Rattle.pattern.proofs.Fragment.{Checked, start-count}
+use Rattle.pattern.proofs.Keeps.{Erred, stays-erred, held, moves-same, in-moved, after, late-errs, foreign-errs, passing-is, incomplete-errs}
 use Rattle.layout.specs.Layout.{timeOf}
-use Rattle.layout.specs.Pages.{noRange, rangeAt}
-use Rattle.tables.specs.Cells.{fragmentIn, indexIn, roleIn, beforeIn, anyIn, lessIn, leastIn, mostIn, limitAt, cellAt, limitIn, isTimed, roleOf, preceding, Cell, HoldsRule}
-use Rattle.fragment.specs.Fragments.{zeros, begunOf, completeOf, growsOf}
-use Rattle.fragment.proofs.Bytes.{same-list}
-use Rattle.fragment.proofs.States.{begunAt, begun-length, begun-at}
-use Rattle.deadline.specs.Deadlines.{pastOf, lateOf, endOf}
+use Rattle.layout.specs.Pages.{rangeAt}
+use Rattle.tables.specs.Cells.{roleIn, limitAt, cellAt, limitIn, isTimed, roleOf, preceding, Cell, HoldsRule}
+use Rattle.deadline.specs.Deadlines.{pastOf, lateOf}
 use Rattle.step.specs.declared.RuleState.{RuleState}
 use Rattle.step.specs.declared.Stepped.{Stepped}
-use Rattle.step.specs.Steps.{brokenOf, standingOf, stoodOf, beginOf, movedBy, longerOf, otherOf, passOf, cellIn, actOf}
-use Rattle.step.specs.Shows.{At, Sound, Counting, Shows, untouched, freed, begun}
-use Rattle.step.proofs.Indices.{moves-length, moves-at, moves-past, fresh-length, fresh-at, fresh-past, slot-at, range-in}
-use Rattle.layout.proofs.Once.{in-names, same-range}
+use Rattle.step.specs.Steps.{brokenOf, beginOf, longerOf, otherOf, passOf, cellIn, actOf}
+use Rattle.step.specs.Shows.{Sound, Counting, Shows, untouched, freed, begun}
+use Rattle.step.proofs.Indices.{fresh-length, fresh-at, slot-at, range-in}
+use Rattle.layout.proofs.Once.{same-range}
 use Rattle.step.proofs.Ranges as R
-use Rattle.step.proofs.Roles.{clash, not-leb, statusIn, standingBy, open-by, status-by, running-by, free-is, end-is, late-is, preceding-is, follow-inside, following-is}
+use Rattle.step.proofs.Roles.{clash, not-leb, free-is, late-is, preceding-is, follow-inside, following-is}
+use Rattle.step.proofs.Settled.{Linked, erred-linked}
+use Rattle.step.proofs.First.{has-it, begin-linked}
+use Rattle.step.proofs.Within.{longer-linked, other-linked}
 use Rattle.step.proofs.Status.{running}
-
--- what is to be shown of a step
-pub record Linked (rule : Rule) (time : ℕ) (s : Stepped) (S : M.RuleState) : Type 0 where
-  pub status : statusIn (s .standing) ≡ statusAt rule S time
-  pub due : eqb (s .standing) 3 ≡ false → eqb (s .standing) 2 ≡ running rule S
-  pub shows : eqb (s .standing) 3 ≡ false → Shows rule (s .state) S
-
--- an error
-erred-linked : (rule : Rule) (time : ℕ) (st : RuleState) (S : M.RuleState) → Erred rule S → Linked rule time (brokenOf st) S
-erred-linked rule time st S e = record {
-  status = sym (rw (is-false (atRest rule S) (e .restless), is-true (erred (slotsOf rule S)) (e .erred)));
-  due = λ z. clash (sym z);
-  shows = λ z. clash (sym z);
-}
-
--- an event of a fragment is in time where its end of P leaves it so
-timely : (rule : Rule) (n end time : ℕ) → (afterP rule n ≡ true → inTime (rule .kind) end time ≡ true) → inTime (rule .kind) (endAfter rule n end time) time ≡ true
-timely rule n end time h = look (afterP rule n) h
-  where
-    look : (a : Bool) → (a ≡ true → inTime (rule .kind) end time ≡ true) → inTime (rule .kind) (cond a end time) time ≡ true
-    look true g = g refl
-    look false g = is-true (inTime (rule .kind) time time) (itself (rule .kind) time)
 
 module _ {table : List ℕ} {r : ℕ} {rule : Rule} (h : HoldsRule table r rule) (sound : Sound rule) (time : ℕ) where
   abbrev size : ℕ → ℕ
@@ -72,147 +45,9 @@ module _ {table : List ℕ} {r : ℕ} {rule : Rule} (h : HoldsRule table r rule)
       let small : name < 64 = subst (λ (m : ℕ). m < 64) (sym e) (sound .small n i hn hi) in
       subst (λ (m : ℕ). Cell rule n i (getD table (cellAt r m) 0)) (sym e ∙ sym (mod-eq-of-lt small)) (h .cell n i hn hi)
 
-  -- ---- a state at which a fragment has begun, in time
-
-  standing-is : (st : RuleState) (S : M.RuleState) (j cell : ℕ) → Counting rule st S j → Cell rule (S .fragment) j cell → standingOf cell (st .states) (st .count) ≡ standingBy (roleOf rule (S .fragment)) (complete (joinOf rule S) (S .count) (slotsOf rule S)) (canGrow (joinOf rule S) (S .count) (slotsOf rule S))
-  unfolding standingOf
-  standing-is st S j cell w c = rw (c .role, R.complete-is sound w cell c, R.grows-is sound w cell c)
-
-  settled : (st : RuleState) (S : M.RuleState) (j cell : ℕ) → Counting rule st S j → Cell rule (S .fragment) j cell → inTime (rule .kind) (S .end) time ≡ true → Linked rule time (record { state = st; standing = standingOf cell (st .states) (st .count) }) S
-  settled st S j cell w c t = record {
-    status = ap statusIn is ∙ status-by sound (S .fragment) (w .inside) C G (w .unfree) ∙ sym (rw (R.restless sound w, R.not-erred sound w, t, and-false (pressed rule S)));
-    due = λ z. ap (λ (k : ℕ). eqb k 2) is ∙ running-by sound (S .fragment) (w .inside) C G (w .unfree) ∙ sym (rw (R.restless sound w, R.not-erred sound w));
-    shows = λ z. begun j w;
-  }
-    where
-      C : Bool
-      C = complete (joinOf rule S) (S .count) (slotsOf rule S)
-
-      G : Bool
-      G = canGrow (joinOf rule S) (S .count) (slotsOf rule S)
-
-      is : standingOf cell (st .states) (st .count) ≡ standingBy (roleOf rule (S .fragment)) C G
-      is = standing-is st S j cell w c
-
-  -- ---- an event on range i of fragment n, in the eyes of the fragment's ranges
-
-  module _ (n i name : ℕ) (hn : n < length (roundOf rule)) (hi : i < size n) (e : name ≡ rangeAt rule n i .name) where
-    own-at : within name (rangeAt rule n i) ≡ own
-    own-at = within-own name (rangeAt rule n i) e
-
-    sibling-at : (k : ℕ) → k < size n → (k ≡ i → ⊥) → within name (rangeAt rule n k) ≡ sibling
-    sibling-at k hk d = within-sibling name (rangeAt rule n k) (λ z. d (same-range (fragmentAt rule n .ranges) (sound .fine n hn .distinct) k i hk hi (sym z ∙ e)))
-
-    has-it : T (has rule n name)
-    has-it = isIn← name (fragmentNames (fragmentAt rule n)) (subst (λ (m : ℕ). In m (fragmentNames (fragmentAt rule n))) (sym e) (in-names (fragmentAt rule n .ranges) i hi))
-
-    -- ---- the first event of the fragment
-
-    module _ (cell : ℕ) (c : Cell rule n i cell) (end : ℕ) (t : afterP rule n ≡ true → inTime (rule .kind) end time ≡ true) where
-      abbrev B : M.RuleState
-      B = begin rule n end (record { name = name; time = time })
-
-      few : size n ≤ 8
-      few = sound .count n hn .1
-
-      fits : indexIn cell ≤ lessIn cell
-      fits = omega (arith, c .index, c .less, hi)
-
-      begun-place : (k : ℕ) → k < 8 → getD (begunOf cell) k 0 ≡ begunAt (lessIn cell) i k
-      begun-place k g = begun-at cell k fits g ∙ ap (λ (x : ℕ). begunAt (lessIn cell) x k) (c .index)
-
-      begun-own : getD (begunOf cell) i 0 ≡ 3
-      begun-own = begun-place i (omega (arith, hi, few)) ∙ rw (eq-eqb i i refl)
-
-      begun-sibling : (k : ℕ) → k < size n → (k ≡ i → ⊥) → getD (begunOf cell) k 0 ≡ 2
-      begun-sibling k g d = let l : k ≤ lessIn cell = omega (arith, c .less, g) in begun-place k (omega (arith, g, few)) ∙ rw (ne-eqb k i d, le-leb k (lessIn cell) l)
-
-      begun-past : (k : ℕ) → size n ≤ k → k < 8 → getD (begunOf cell) k 0 ≡ 0
-      begun-past k g l =
-          let d : k ≡ i → ⊥ = λ z. omega (arith, z, hi, g) in
-          let m : lessIn cell < k = omega (arith, c .less, g) in
-          begun-place k l ∙ rw (ne-eqb k i d, lt-leb k (lessIn cell) m)
-
-      abbrev first : List State
-      first = moves (fragmentAt rule n .join) (within name) 0 (fragmentAt rule n .ranges) (notBegun (fragmentAt rule n .ranges) 8)
-
-      room : size n ≤ length (notBegun (fragmentAt rule n .ranges) 8)
-      room = subst (λ (m : ℕ). size n ≤ m) (sym (fresh-length (fragmentAt rule n .ranges) 8)) few
-
-      states-are : map stateOf (begunOf cell) ≡ first
-      states-are = same-list idle (map stateOf (begunOf cell)) first (eight ∙ sym long) (λ k g. at k (subst (λ (m : ℕ). k < m) eight g))
-        where
-          eight : length (map stateOf (begunOf cell)) ≡ 8
-          eight = length-map (begunOf cell) stateOf ∙ begun-length cell
-
-          long : length first ≡ 8
-          long = moves-length (fragmentAt rule n .join) (within name) 0 (fragmentAt rule n .ranges) (notBegun (fragmentAt rule n .ranges) 8) room ∙ fresh-length (fragmentAt rule n .ranges) 8
-
-          inner : (k : ℕ) → k < size n → getD first k idle ≡ move (fragmentAt rule n .join) (rangeAt rule n k) 0 unbegun (within name (rangeAt rule n k))
-          inner k g = moves-at (fragmentAt rule n .join) (within name) 0 (fragmentAt rule n .ranges) (notBegun (fragmentAt rule n .ranges) 8) k room g ∙ ap (λ (s : State). move (fragmentAt rule n .join) (rangeAt rule n k) 0 s (within name (rangeAt rule n k))) (fresh-at (fragmentAt rule n .ranges) 8 k few g)
-
-          at : (k : ℕ) → k < 8 → getD (map stateOf (begunOf cell)) k idle ≡ getD first k idle
-          at k g = List·getD-map stateOf (begunOf cell) k 0 ∙ look (ltb k (size n)) refl (eqb k i) refl
-            where
-              look : (a : Bool) → ltb k (size n) ≡ a → (b : Bool) → eqb k i ≡ b → stateOf (getD (begunOf cell) k 0) ≡ getD first k idle
-              look true qa true qb =
-                  let z : k ≡ i = eqb-true k i qb in
-                  subst (λ (x : ℕ). stateOf (getD (begunOf cell) x 0) ≡ getD first x idle) (sym z) (ap stateOf begun-own ∙ sym (inner i hi ∙ rw own-at))
-              look true qa false qb =
-                  let l : k < size n = ltb-true k (size n) qa in
-                  let d = eqb-false k i qb in
-                  ap stateOf (begun-sibling k l d) ∙ sym (inner k l ∙ rw (sibling-at k l d))
-              look false qa b qb =
-                  let l : size n ≤ k = ltb-false k (size n) qa in
-                  ap stateOf (begun-past k l g) ∙ sym (moves-past (fragmentAt rule n .join) (within name) 0 (fragmentAt rule n .ranges) (notBegun (fragmentAt rule n .ranges) 8) k l ∙ fresh-past (fragmentAt rule n .ranges) 8 k l)
-
-      abbrev o : RuleState
-      o = record { fragment = fragmentIn cell; current = name; states = begunOf cell; count = 1; end = endOf cell end time }
-
-      begun-counts : (isOnce (rule .kind) && afterP rule n) ≡ false → Counting rule o B i
-      begun-counts q = record {
-        inside = hn;
-        fragment = c .fragment;
-        states = states-are ∙ sym (rw q);
-        count = refl;
-        end = end-is sound n hn cell (c .role) end time;
-        unfree = q;
-        held = hi;
-        current = e;
-        begun = omega arith;
-        high = let a = sound .fine n hn .some (rangeAt rule n i) (range-in (fragmentAt rule n .ranges) i hi) in let b : rangeAt rule n i .u ≤ rangeAt rule n i .v = sound .fine n hn .order (rangeAt rule n i) (range-in (fragmentAt rule n .ranges) i hi) in omega (arith, a, b);
-        eight = begun-length cell;
-        counts = begun-own;
-        calm = λ k g d. inl (begun-sibling k g d);
-        idle = begun-past;
-      }
-
-      begin-linked : Linked rule time (beginOf cell name end time) B
-      unfolding beginOf stoodOf
-      begin-linked = look (isOnce (rule .kind) && afterP rule n) refl
-        where
-          free : eqb (roleIn cell) 5 ≡ (isOnce (rule .kind) && afterP rule n)
-          free = free-is sound n hn cell (c .role)
-
-          look : (b : Bool) → (isOnce (rule .kind) && afterP rule n) ≡ b → Linked rule time (beginOf cell name end time) B
-          look true q =
-              let rests : atRest rule B ≡ true = rw q in
-              let is : beginOf cell name end time ≡ record { state = record { fragment = fragmentIn cell; current = name; states = zeros; count = 1; end = end }; standing = 0 } = rw (free, q) in
-              subst (λ (x : Stepped). Linked rule time x B) (sym is) (record {
-                status = sym (rw rests);
-                due = λ z. sym (rw rests (and-false (isTimed (rule .kind))));
-                shows = λ z. freed (λ y. omega (arith, y)) q n i hn hi (sym (c .role) ∙ eqb-true (roleIn cell) 5 (free ∙ q)) e;
-              })
-          look false q =
-              let is : beginOf cell name end time ≡ stoodOf cell name (begunOf cell) 1 end time = rw (free, q) in
-              subst (λ (x : Stepped). Linked rule time x B) (sym is) (settled o B i cell (begun-counts q) c (timely rule n end time t))
-
   -- ---- a state at which a fragment has begun: range j counts
 
   module _ (st : RuleState) (S : M.RuleState) (j : ℕ) (w : Counting rule st S j) where
-    abbrev n₀ : ℕ
-    n₀ = S .fragment
-
     abbrev rs : List Range
     rs = fragmentAt rule (S .fragment) .ranges
 
@@ -225,247 +60,7 @@ module _ {table : List ℕ} {r : ℕ} {rule : Rule} (h : HoldsRule table r rule)
     unfree : T (not (released rule S))
     unfree = rw (w .unfree) tt
 
-    calm-sibling : (k : ℕ) → k < length rs → (k ≡ j → ⊥) → move (fragmentAt rule (S .fragment) .join) (rangeAt rule (S .fragment) k) (S .count) (getD (S .states) k idle) sibling ≡ getD (S .states) k idle
-    calm-sibling k g d = look (R.calm-at sound w k g d)
-      where
-        look : Calm (getD (S .states) k idle) → move (fragmentAt rule (S .fragment) .join) (rangeAt rule (S .fragment) k) (S .count) (getD (S .states) k idle) sibling ≡ getD (S .states) k idle
-        look (inl z) = rw z
-        look (inr z) = rw z
-
-    module _ (name : ℕ) where
-      abbrev E : Event
-      E = record { name = name; time = time }
-
-      abbrev moved-to : List State
-      moved-to = moves (fragmentAt rule (S .fragment) .join) (within name) (S .count) rs (S .states)
-
-      -- an error at a slot
-      errs : T (has rule (S .fragment) name) → T (not (late rule S E)) → (x : Slot) → In x (slotsOf rule S) → T (isError (move (fragmentAt rule (S .fragment) .join) (x .range) (S .count) (x .state) (within name (x .range)))) → Erred rule (step rule S E)
-      errs hs l x i u = inside-errs rule S ck refl r₀ (R.runs sound w) unfree E hs l (look (erred (slots rs moved-to)) (any← (λ (y : Slot). isError (y .state)) (slots rs moved-to) (after (fragmentAt rule (S .fragment) .join) (S .count) rs (S .states) (within name) x) (in-moved (fragmentAt rule (S .fragment) .join) (S .count) rs (S .states) (within name) x i) u))
-        where
-          look : (b : Bool) → T b → T (not (not b))
-          look true t = tt
-          look false t = t
-
-      -- what an event of the fragment, in time and no error, makes of the state
-      abbrev N : M.RuleState
-      N = record { fragment = S .fragment; states = moved-to; count = counts name (S .count) (slotsOf rule S); end = endAfter rule (S .fragment) (S .end) time }
-
-      step-is : T (has rule (S .fragment) name) → T (not (late rule S E)) → step rule S E ≡ N
-      step-is hs l = inside-is rule S ck refl r₀ (R.runs sound w) unfree E hs l
-
-      moved-at : (k : ℕ) → k < length rs → getD moved-to k idle ≡ move (fragmentAt rule (S .fragment) .join) (rangeAt rule (S .fragment) k) (S .count) (getD (S .states) k idle) (within name (rangeAt rule (S .fragment) k))
-      moved-at k g = moves-at (fragmentAt rule (S .fragment) .join) (within name) (S .count) rs (S .states) k (R.enough sound w) g
-
-      moved-length : length moved-to ≡ length (S .states)
-      moved-length = moves-length (fragmentAt rule (S .fragment) .join) (within name) (S .count) rs (S .states) (R.enough sound w)
-
-    -- ---- an event of range j
-
-    module _ (cell : ℕ) (c : Cell rule (S .fragment) j cell) (t : afterP rule (S .fragment) ≡ true → inTime (rule .kind) (S .end) time ≡ true) where
-      abbrev name : ℕ
-      name = st .current
-
-      hs : T (has rule (S .fragment) (st .current))
-      hs = has-it (S .fragment) j (st .current) (w .inside) (w .held) (w .current)
-
-      in-time : T (not (late rule S (record { name = st .current; time = time })))
-      in-time = rw (is-true (has rule (S .fragment) (st .current)) hs) (look (afterP rule (S .fragment)) t)
-        where
-          look : (a : Bool) → (a ≡ true → inTime (rule .kind) (S .end) time ≡ true) → T (not (a && not (inTime (rule .kind) (S .end) time)))
-          look true g = rw (g refl) tt
-          look false g = tt
-
-      own-is : (b : Bool) → hasRoom r₀ (S .count) ≡ b → move (fragmentAt rule (S .fragment) .join) r₀ (S .count) counting (within (st .current) r₀) ≡ cond b counting error
-      own-is b q = rw (own-at (S .fragment) j (st .current) (w .inside) (w .held) (w .current), q)
-
-      -- the table's move for it
-      own-moved : (b : Bool) → hasRoom r₀ (S .count) ≡ b → movedBy cell 0 3 (st .count) ≡ stateNumber (cond b counting error)
-      unfolding nextState
-      own-moved b q = ap (λ (x : Bool). stateNumber (cond x counting error)) (R.room-is sound w cell c ∙ q)
-
-      longer-linked : Linked rule time (longerOf cell st (st .current) time) (step rule S (record { name = st .current; time = time }))
-      unfolding longerOf stoodOf
-      longer-linked = look (hasRoom r₀ (S .count)) refl
-        where
-          look : (b : Bool) → hasRoom r₀ (S .count) ≡ b → Linked rule time (longerOf cell st (st .current) time) (step rule S (record { name = st .current; time = time }))
-          look false q =
-              let is : longerOf cell st (st .current) time ≡ brokenOf st = rw (own-moved false q) in
-              subst (λ (x : Stepped). Linked rule time x (step rule S (record { name = st .current; time = time }))) (sym is)
-              (erred-linked rule time st (step rule S (record { name = st .current; time = time })) (errs (st .current) hs in-time (slot r₀ counting) (R.here sound w) (rw (own-is false q) tt)))
-          look true q =
-              let is : longerOf cell st (st .current) time ≡ stoodOf cell (st .current) (st .states) (st .count + 1) (st .end) time = rw (own-moved true q) in
-              subst (λ (x : Stepped). Linked rule time x (step rule S (record { name = st .current; time = time }))) (sym is)
-              (subst (λ (x : M.RuleState). Linked rule time (stoodOf cell (st .current) (st .states) (st .count + 1) (st .end) time) x) (sym (step-is (st .current) hs in-time))
-              (settled o (N (st .current)) j cell w′ c (timely rule (S .fragment) (S .end) time t)))
-            where
-              o : RuleState
-              o = record { fragment = fragmentIn cell; current = st .current; states = st .states; count = st .count + 1; end = endOf cell (st .end) time }
-
-              same : moved-to (st .current) ≡ S .states
-              same = same-list idle (moved-to (st .current)) (S .states) (moved-length (st .current)) (λ k g. at k (ltb k (length rs)) refl (eqb k j) refl)
-                where
-                  at : (k : ℕ) → (a : Bool) → ltb k (length rs) ≡ a → (b : Bool) → eqb k j ≡ b → getD (moved-to (st .current)) k idle ≡ getD (S .states) k idle
-                  at k true qa true qb = subst (λ (x : ℕ). getD (moved-to (st .current)) x idle ≡ getD (S .states) x idle) (sym (eqb-true k j qb)) (moved-at (st .current) j (w .held) ∙ rw (R.counts-at sound w) (own-is true q))
-                  at k true qa false qb = let g = ltb-true k (length rs) qa in let d = eqb-false k j qb in moved-at (st .current) k g ∙ rw (sibling-at (S .fragment) j (st .current) (w .inside) (w .held) (w .current) k g d) (calm-sibling k g d)
-                  at k false qa b qb = moves-past (fragmentAt rule (S .fragment) .join) (within (st .current)) (S .count) rs (S .states) k (ltb-false k (length rs) qa)
-
-              more : S .count < r₀ .v
-              more = ltb-true (S .count) (r₀ .v) q
-
-              w′ : Counting rule o (N (st .current)) j
-              w′ = record {
-                inside = w .inside;
-                fragment = c .fragment;
-                states = w .states ∙ sym same;
-                count = add-one (st .count) ∙ ap suc (w .count) ∙ sym (count-longer (fragmentAt rule (S .fragment) .join) rs (sound .fine (S .fragment) (w .inside)) (slotsOf rule S) (S .count) r₀ (R.runs sound w) (st .current) (w .current) (omega (arith, more)));
-                end = ap (λ (x : ℕ). endOf cell x time) (w .end) ∙ end-is sound (S .fragment) (w .inside) cell (c .role) (S .end) time;
-                unfree = w .unfree;
-                held = w .held;
-                current = w .current;
-                begun = let z = count-longer (fragmentAt rule (S .fragment) .join) rs (sound .fine (S .fragment) (w .inside)) (slotsOf rule S) (S .count) r₀ (R.runs sound w) (st .current) (w .current) (omega (arith, more)) in omega (arith, z);
-                high = let z = count-longer (fragmentAt rule (S .fragment) .join) rs (sound .fine (S .fragment) (w .inside)) (slotsOf rule S) (S .count) r₀ (R.runs sound w) (st .current) (w .current) (omega (arith, more)) in omega (arith, z, more);
-                eight = w .eight;
-                counts = w .counts;
-                calm = w .calm;
-                idle = w .idle;
-              }
-
-    -- ---- an event of another range i of the fragment
-
-    module _ (i name c d : ℕ) (hi : i < size (S .fragment)) (e : name ≡ rangeAt rule (S .fragment) i .name) (apart : i ≡ j → ⊥) (cc′ : Cell rule (S .fragment) i c) (cd : Cell rule (S .fragment) j d) (t : afterP rule (S .fragment) ≡ true → inTime (rule .kind) (S .end) time ≡ true) where
-      abbrev E′ : Event
-      E′ = record { name = name; time = time }
-
-      rᵢ : Range
-      rᵢ = rangeAt rule (S .fragment) i
-
-      hs′ : T (has rule (S .fragment) name)
-      hs′ = has-it (S .fragment) i name (w .inside) hi e
-
-      in-time′ : T (not (late rule S E′))
-      in-time′ = rw (is-true (has rule (S .fragment) name) hs′) (look (afterP rule (S .fragment)) t)
-        where
-          look : (a : Bool) → (a ≡ true → inTime (rule .kind) (S .end) time ≡ true) → T (not (a && not (inTime (rule .kind) (S .end) time)))
-          look true g = rw (g refl) tt
-          look false g = tt
-
-      -- range j sees a sibling
-      old-is : (b : Bool) → hasEnough r₀ (S .count) ≡ b → move (fragmentAt rule (S .fragment) .join) r₀ (S .count) counting (within name r₀) ≡ cond b done error
-      old-is b q = rw (sibling-at (S .fragment) i name (w .inside) hi e j (w .held) (λ z. apart (sym z)), q)
-
-      old-moved : (b : Bool) → hasEnough r₀ (S .count) ≡ b → movedBy d 1 3 (st .count) ≡ stateNumber (cond b done error)
-      unfolding nextState
-      old-moved b q = ap (λ (x : Bool). stateNumber (cond x done error)) (R.enough-is sound w d cd ∙ q)
-
-      -- range i its own
-      waiting-moved : getD (st .states) i 0 ≡ 2 → movedBy c 0 (getD (st .states) (indexIn c) 0) (st .count) ≡ 3
-      unfolding nextState
-      waiting-moved q = rw (cc′ .index, q)
-
-      done-moved : getD (st .states) i 0 ≡ 4 → movedBy c 0 (getD (st .states) (indexIn c) 0) (st .count) ≡ 5
-      unfolding nextState
-      done-moved q = rw (cc′ .index, q)
-
-      slot-i : (s : State) → getD (S .states) i idle ≡ s → In (slot (rangeAt rule (S .fragment) i) s) (slotsOf rule S)
-      slot-i s q = subst (λ (x : State). In (slot (rangeAt rule (S .fragment) i) x) (slotsOf rule S)) q (slot-at rs (S .states) i (R.enough sound w) hi)
-
-      abbrev Goal : Type 0
-      Goal = Linked rule time (otherOf c d st name time) (step rule S (record { name = name; time = time }))
-
-      fails : otherOf c d st name time ≡ brokenOf st → Erred rule (step rule S (record { name = name; time = time })) → Goal
-      fails is er = subst (λ (x : Stepped). Linked rule time x (step rule S (record { name = name; time = time }))) (sym is) (erred-linked rule time st (step rule S (record { name = name; time = time })) er)
-
-      abbrev x′ : List ℕ
-      x′ = set (set (st .states) (indexIn d) 4) (indexIn c) 3
-
-      -- the new states, place by place
-      long-j : indexIn d < length (st .states)
-      long-j = omega (arith, w .eight)
-
-      long-i : indexIn c < length (set (st .states) (indexIn d) 4)
-      long-i = let l = length-set (st .states) (indexIn d) 4 in omega (arith, l, w .eight)
-
-      new-i : getD x′ i 0 ≡ 3
-      new-i = ap (λ (k : ℕ). getD x′ k 0) (sym (cc′ .index)) ∙ getD-set-same (set (st .states) (indexIn d) 4) (indexIn c) 3 0 long-i
-
-      new-j : getD x′ j 0 ≡ 4
-      new-j = getD-set-other (set (st .states) (indexIn d) 4) (indexIn c) j 3 0 (λ z. apart (sym (z ∙ cc′ .index))) ∙ ap (λ (k : ℕ). getD (set (st .states) (indexIn d) 4) k 0) (sym (cd .index)) ∙ getD-set-same (st .states) (indexIn d) 4 0 long-j
-
-      new-k : (k : ℕ) → (k ≡ i → ⊥) → (k ≡ j → ⊥) → getD x′ k 0 ≡ getD (st .states) k 0
-      new-k k ni nj = getD-set-other (set (st .states) (indexIn d) 4) (indexIn c) k 3 0 (λ z. ni (z ∙ cc′ .index)) ∙ getD-set-other (st .states) (indexIn d) k 4 0 (λ z. nj (z ∙ cd .index))
-
-      eight′ : length x′ ≡ 8
-      eight′ = length-set (set (st .states) (indexIn d) 4) (indexIn c) 3 ∙ length-set (st .states) (indexIn d) 4 ∙ w .eight
-
-      module _ (waits : getD (st .states) i 0 ≡ 2) (enough : hasEnough r₀ (S .count) ≡ true) where
-        begun-states : map stateOf x′ ≡ moved-to name
-        begun-states = same-list idle (map stateOf x′) (moved-to name) lengths (λ k g. List·getD-map stateOf x′ k 0 ∙ at k (ltb k (length rs)) refl (eqb k i) refl (eqb k j) refl (subst (λ (m : ℕ). k < m) (length-map x′ stateOf ∙ eight′) g))
-          where
-            lengths : length (map stateOf x′) ≡ length (moved-to name)
-            lengths = length-map x′ stateOf ∙ eight′ ∙ sym (moved-length name ∙ sym (ap length (w .states)) ∙ length-map (st .states) stateOf ∙ w .eight)
-
-            at : (k : ℕ) → (a : Bool) → ltb k (length rs) ≡ a → (b : Bool) → eqb k i ≡ b → (b′ : Bool) → eqb k j ≡ b′ → k < 8 → stateOf (getD x′ k 0) ≡ getD (moved-to name) k idle
-            at k true qa true qb b′ qb′ g =
-                subst (λ (x : ℕ). stateOf (getD x′ x 0) ≡ getD (moved-to name) x idle) (sym (eqb-true k i qb))
-                (ap stateOf new-i ∙ sym (moved-at name i hi ∙ rw (R.state-at sound w i, waits, own-at (S .fragment) i name (w .inside) hi e)))
-            at k true qa false qb true qb′ g =
-                subst (λ (x : ℕ). stateOf (getD x′ x 0) ≡ getD (moved-to name) x idle) (sym (eqb-true k j qb′))
-                (ap stateOf new-j ∙ sym (moved-at name j (w .held) ∙ rw (R.counts-at sound w) (old-is true enough)))
-            at k true qa false qb false qb′ g =
-                let l = ltb-true k (length rs) qa in
-                let ni = eqb-false k i qb in
-                let nj = eqb-false k j qb′ in
-                ap stateOf (new-k k ni nj) ∙ sym (R.state-at sound w k) ∙ sym (moved-at name k l ∙ rw (sibling-at (S .fragment) i name (w .inside) hi e k l ni) (calm-sibling k l nj))
-            at k false qa b qb b′ qb′ g =
-                let l = ltb-false k (length rs) qa in
-                ap stateOf (new-k k (λ z. omega (arith, z, l, hi)) (λ z. omega (arith, z, l, w .held))) ∙ sym (R.state-at sound w k) ∙ sym (moves-past (fragmentAt rule (S .fragment) .join) (within name) (S .count) rs (S .states) k l)
-
-        waits-i : Waits (slotsOf rule S) (rangeAt rule (S .fragment) i)
-        waits-i = slot-i waiting (R.state-at sound w i ∙ ap stateOf waits)
-
-        count-is : counts name (S .count) (slotsOf rule S) ≡ 1
-        count-is = count-begun (fragmentAt rule (S .fragment) .join) rs (sound .fine (S .fragment) (w .inside)) (slotsOf rule S) (S .count) r₀ (R.runs sound w) name (rangeAt rule (S .fragment) i) e waits-i
-
-        abbrev o′ : RuleState
-        o′ = record { fragment = fragmentIn c; current = name; states = x′; count = 1; end = endOf c (st .end) time }
-
-        begun-other : Counting rule o′ (N name) i
-        begun-other = record {
-          inside = w .inside;
-          fragment = cc′ .fragment;
-          states = begun-states;
-          count = sym count-is;
-          end = ap (λ (x : ℕ). endOf c x time) (w .end) ∙ end-is sound (S .fragment) (w .inside) c (cc′ .role) (S .end) time;
-          unfree = w .unfree;
-          held = hi;
-          current = e;
-          begun = omega (arith, count-is);
-          high = let a = sound .fine (S .fragment) (w .inside) .some (rangeAt rule (S .fragment) i) (range-in rs i hi) in let b : rangeAt rule (S .fragment) i .u ≤ rangeAt rule (S .fragment) i .v = sound .fine (S .fragment) (w .inside) .order (rangeAt rule (S .fragment) i) (range-in rs i hi) in omega (arith, count-is, a, b);
-          eight = eight′;
-          counts = new-i;
-          calm = λ k g ni. calmly k g ni (eqb k j) refl;
-          idle = λ k l g. new-k k (λ z. omega (arith, z, l, hi)) (λ z. omega (arith, z, l, w .held)) ∙ w .idle k l g;
-        }
-          where
-            calmly : (k : ℕ) → k < length rs → (k ≡ i → ⊥) → (b : Bool) → eqb k j ≡ b → (getD x′ k 0 ≡ 2) ⊎ (getD x′ k 0 ≡ 4)
-            calmly k g ni true q = inr (ap (λ (x : ℕ). getD x′ x 0) (eqb-true k j q) ∙ new-j)
-            calmly k g ni false q = subst (λ (x : ℕ). (x ≡ 2) ⊎ (x ≡ 4)) (sym (new-k k ni (eqb-false k j q))) (w .calm k g (eqb-false k j q))
-
-      other-linked : Goal
-      unfolding otherOf stoodOf
-      other-linked = look (w .calm i hi apart) (hasEnough r₀ (S .count)) refl
-        where
-          look : (getD (st .states) i 0 ≡ 2) ⊎ (getD (st .states) i 0 ≡ 4) → (b : Bool) → hasEnough r₀ (S .count) ≡ b → Goal
-          look (inr q) b qb = fails (rw (done-moved q)) (errs name hs′ in-time′ (slot (rangeAt rule (S .fragment) i) done) (slot-i done (R.state-at sound w i ∙ ap stateOf q)) (rw (own-at (S .fragment) i name (w .inside) hi e) tt))
-          look (inl q) false qb = fails (rw (waiting-moved q, old-moved false qb)) (errs name hs′ in-time′ (slot r₀ counting) (R.here sound w) (rw (old-is false qb) tt))
-          look (inl q) true qb =
-              let is : otherOf c d st name time ≡ stoodOf c name x′ 1 (st .end) time = rw (waiting-moved q, old-moved true qb) in
-              subst (λ (x : Stepped). Linked rule time x (step rule S (record { name = name; time = time }))) (sym is)
-              (subst (λ (x : M.RuleState). Linked rule time (stoodOf c name x′ 1 (st .end) time) x) (sym (step-is name hs′ in-time′))
-              (settled (o′ q qb) (N name) i c (begun-other q qb) cc′ (timely rule (S .fragment) (S .end) time t)))
-
-    -- ---- any event on one of the rule's names: on range i of fragment g
+    -- an event on range i of fragment g
 
     module _ (name g i : ℕ) (hg : g < length (roundOf rule)) (hi : i < size g) (e : name ≡ rangeAt rule g i .name) where
       abbrev C′ : ℕ
@@ -495,10 +90,10 @@ module _ {table : List ℕ} {r : ℕ} {rule : Rule} (h : HoldsRule table r rule)
       -- not of the fragment at which the rule stands
       module _ (away : g ≡ S .fragment → ⊥) where
         gone : T (not (has rule (S .fragment) name))
-        gone = not-T (has rule (S .fragment) name) (λ t. away (sound .apart g (S .fragment) name hg (w .inside) (has-it g i name hg hi e) t))
+        gone = not-T (has rule (S .fragment) name) (λ t. away (sound .apart g (S .fragment) name hg (w .inside) (has-it sound time g i name hg hi e) t))
 
         strange : (g ≡ following rule (S .fragment) → ⊥) → Erred rule after′
-        strange d = foreign-errs rule S ck refl r₀ (R.runs sound w) unfree (record { name = name; time = time }) gone (not-T (has rule (following rule (S .fragment)) name) (λ t. d (sound .apart g (following rule (S .fragment)) name hg (follow-inside sound (S .fragment) (w .inside)) (has-it g i name hg hi e) t)))
+        strange d = foreign-errs rule S ck refl r₀ (R.runs sound w) unfree (record { name = name; time = time }) gone (not-T (has rule (following rule (S .fragment)) name) (λ t. d (sound .apart g (following rule (S .fragment)) name hg (follow-inside sound (S .fragment) (w .inside)) (has-it sound time g i name hg hi e) t)))
 
       late-errs′ : T (afterP rule g && not (inTime (rule .kind) (S .end) time)) → Erred rule after′
       late-errs′ t = look (eqb g (S .fragment)) refl (eqb g (following rule (S .fragment))) refl
@@ -506,7 +101,7 @@ module _ {table : List ℕ} {r : ℕ} {rule : Rule} (h : HoldsRule table r rule)
           look : (a : Bool) → eqb g (S .fragment) ≡ a → (b : Bool) → eqb g (following rule (S .fragment)) ≡ b → Erred rule after′
           look true qa b qb =
               let z : g ≡ S .fragment = eqb-true g (S .fragment) qa in
-              let hs″ : has rule (S .fragment) name ≡ true = is-true (has rule (S .fragment) name) (subst (λ (m : ℕ). T (has rule m name)) z (has-it g i name hg hi e)) in
+              let hs″ : has rule (S .fragment) name ≡ true = is-true (has rule (S .fragment) name) (subst (λ (m : ℕ). T (has rule m name)) z (has-it sound time g i name hg hi e)) in
               late-errs rule S ck refl r₀ (R.runs sound w) unfree (record { name = name; time = time }) (rw hs″ (subst (λ (m : ℕ). T (afterP rule m && not (inTime (rule .kind) (S .end) time))) z t))
           look false qa true qb =
               let z : g ≡ following rule (S .fragment) = eqb-true g (following rule (S .fragment)) qb in
@@ -542,8 +137,8 @@ module _ {table : List ℕ} {r : ℕ} {rule : Rule} (h : HoldsRule table r rule)
             look true q =
                 let y : name ≡ st .current = eqb-true name (st .current) q in
                 let k : i ≡ j = same-range rs (sound .fine (S .fragment) (w .inside) .distinct) i j hi′ (w .held) (sym e′ ∙ y ∙ w .current) in
-                subst (λ (m : ℕ). Linked rule time (longerOf (cellIn table r m) st m time) (step rule S (record { name = m; time = time }))) (sym y) (longer-linked D′ cell-d t′)
-            look false q = other-linked i name C′ D′ hi′ e′ (λ k. eqb-false name (st .current) q (e′ ∙ ap (λ (m : ℕ). rangeAt rule (S .fragment) m .name) k ∙ sym (w .current))) c′ cell-d t′
+                subst (λ (m : ℕ). Linked rule time (longerOf (cellIn table r m) st m time) (step rule S (record { name = m; time = time }))) (sym y) (longer-linked sound time st S j w D′ cell-d t′)
+            look false q = other-linked sound time st S j w i name C′ D′ hi′ e′ (λ k. eqb-false name (st .current) q (e′ ∙ ap (λ (m : ℕ). rangeAt rule (S .fragment) m .name) k ∙ sym (w .current))) c′ cell-d t′
 
         -- of another
         onward : (g ≡ S .fragment → ⊥) → Linked rule time (passOf C′ D′ st name time) after′
@@ -564,7 +159,7 @@ module _ {table : List ℕ} {r : ℕ} {rule : Rule} (h : HoldsRule table r rule)
                 f-is = ap (following rule) (sym (eqb-true (preceding rule g) (S .fragment) qa)) ∙ following-is sound g hg
 
                 there : T (has rule (following rule (S .fragment)) name)
-                there = subst (λ (m : ℕ). T (has rule m name)) (sym f-is) (has-it g i name hg hi e)
+                there = subst (λ (m : ℕ). T (has rule m name)) (sym f-is) (has-it sound time g i name hg hi e)
 
                 not-late : T (not (late rule S (record { name = name; time = time })))
                 not-late = rw (is-false (has rule (S .fragment) name) (gone away), f-is, punctual) tt
@@ -574,7 +169,7 @@ module _ {table : List ℕ} {r : ℕ} {rule : Rule} (h : HoldsRule table r rule)
                     let y : passOf C′ D′ st name time ≡ beginOf C′ name (st .end) time = is ∙ rw (qa, q) in
                     let z : after′ ≡ begin rule g (st .end) (record { name = name; time = time }) = passing-is rule S ck refl r₀ (R.runs sound w) unfree (record { name = name; time = time }) (gone away) not-late there (rw q tt) ∙ ap₂ (λ (m x : ℕ). begin rule m x (record { name = name; time = time })) f-is (sym (w .end)) in
                     subst (λ (x : Stepped). Linked rule time x after′) (sym y) (subst (λ (x : M.RuleState). Linked rule time (beginOf C′ name (st .end) time) x) (sym z)
-                    (begin-linked g i name hg hi e C′ cell-c (st .end) (λ a. ap (λ (x : ℕ). inTime (rule .kind) x time) (w .end) ∙ on-time a)))
+                    (begin-linked sound time g i name hg hi e C′ cell-c (st .end) (λ a. ap (λ (x : ℕ). inTime (rule .kind) x time) (w .end) ∙ on-time a)))
                 go false q = fails′ (is ∙ rw (qa, q)) (incomplete-errs rule S ck refl r₀ (R.runs sound w) unfree (record { name = name; time = time }) (gone away) not-late there (rw q tt))
 
       acts-begun : Linked rule time (actOf table r st name time) after′
@@ -611,7 +206,7 @@ module _ {table : List ℕ} {r : ℕ} {rule : Rule} (h : HoldsRule table r rule)
     begins₀ z = subst (λ (m : ℕ). step rule F E₀ ≡ begin rule m (st .end) E₀) (sym z) (is-stay ∙ (λ k. record { fragment = 0; states = states-is k; count = count-is k; end = end-is₀ k }))
       where
         hs₀ : has rule 0 name ≡ true
-        hs₀ = is-true (has rule 0 name) (subst (λ (m : ℕ). T (has rule m name)) z (has-it g i name hg hi e))
+        hs₀ = is-true (has rule 0 name) (subst (λ (m : ℕ). T (has rule m name)) z (has-it sound time g i name hg hi e))
 
         late₀ : late rule F E₀ ≡ false
         late₀ = rw (hs₀, first-p)
@@ -638,7 +233,7 @@ module _ {table : List ℕ} {r : ℕ} {rule : Rule} (h : HoldsRule table r rule)
     strange₀ d = stays-erred rule F E₀ (rw unfree₀ tt) (any← (λ (y : Slot). isError (y .state)) (slots (fragmentAt rule 0 .ranges) (moved rule F E₀)) (after (fragmentAt rule 0 .join) 0 (fragmentAt rule 0 .ranges) (notBegun (fragmentAt rule 0 .ranges) 8) (classOf rule F E₀) x₀) (in-moved (fragmentAt rule 0 .join) 0 (fragmentAt rule 0 .ranges) (notBegun (fragmentAt rule 0 .ranges) 8) (classOf rule F E₀) x₀ x-in) (look (late rule F E₀) (has rule (following rule 0) name)))
       where
         gone₀ : has rule 0 name ≡ false
-        gone₀ = is-false (has rule 0 name) (not-T (has rule 0 name) (λ t. d (sound .apart g 0 name hg first-inside (has-it g i name hg hi e) t)))
+        gone₀ = is-false (has rule 0 name) (not-T (has rule 0 name) (λ t. d (sound .apart g 0 name hg first-inside (has-it sound time g i name hg hi e) t)))
 
         few₀ : size 0 ≤ 8
         few₀ = sound .count 0 first-inside .1
@@ -665,7 +260,7 @@ module _ {table : List ℕ} {r : ℕ} {rule : Rule} (h : HoldsRule table r rule)
             let z : g ≡ 0 = eqb-true g 0 q in
             let p : afterP rule g ≡ false = ap (afterP rule) z ∙ first-p in
             subst (λ (x : M.RuleState). Linked rule time (beginOf (cellIn table r name) name (st .end) time) x) (sym (begins₀ z))
-            (begin-linked g i name hg hi e (cellIn table r name) (cell-of g i name hg hi e) (st .end) (λ a. clash (sym p ∙ a)))
+            (begin-linked sound time g i name hg hi e (cellIn table r name) (cell-of g i name hg hi e) (st .end) (λ a. clash (sym p ∙ a)))
         look false q = erred-linked rule time st (step rule F E₀) (strange₀ (eqb-false g 0 q))
 
   -- ---- a rule that is released

@@ -2,27 +2,27 @@
 -- Assumes nothing.
 use mathlib.Core.Path.{_≡_, refl, sym, _∙_, ap, ap₂, subst}
 use mathlib.Core.Logic.{_⊎_, inl, inr, _≢_}
-use mathlib.Core.Bool.{Bool, true, false, cond, not, _&&_, _||_}
-use mathlib.Core.List.{List, [], _∷_, map}
-use Prim.Native.Nat.{ℕ, zero, suc, _≤_, _<_}
+use mathlib.Core.Bool.{Bool, true, false, cond, not, _||_}
+use mathlib.Core.List.{List}
+use Prim.Native.Nat.{ℕ, suc, _≤_, _<_}
 use native.Mathlib.Omega.{arith}
-use lib.Dec.{T, leb, ltb, eqb, T-not, not-T, le→leb, leb→le, lt→ltb, ltb→lt}
+use lib.Dec.{T, leb, ltb, eqb, not-T}
 use lib.ListN.{length, getD, List·getD-map, length-map}
-use borrow.Author.Tests.{le-leb, lt-leb, lt-ltb, le-ltb, ltb-true, ltb-false, eq-eqb, ne-eqb, eqb-true, eqb-false, leb-true, leb-false}
-use Rattle.pattern.specs.Lists.{In, allOf, anyOf}
-use Rattle.pattern.specs.Meaning.{Range, Join, all, any, Fragment, Rule, Between}
-use Rattle.pattern.specs.Recogniser.{State, idle, unbegun, waiting, counting, done, error, next, own, hasEnough, hasRoom, mayBeLeftOut, move, isIdle, isUnbegun, isCounting, isError, Slot, slots, erred, complete, canGrow}
-use Rattle.pattern.specs.Model.{roundOf, fragmentAt, slotsOf, joinOf, released, atRest}
+use borrow.Author.Tests.{le-leb, ltb-true, ltb-false, eqb-true, eqb-false, leb-true, leb-false}
+use Rattle.pattern.specs.Lists.{In, anyOf}
+use Rattle.pattern.specs.Meaning.{Range, Join, all, any, Fragment, Rule}
+use Rattle.pattern.specs.Recogniser.{State, idle, waiting, counting, done, error, next, own, hasEnough, hasRoom, mayBeLeftOut, move, isIdle, isUnbegun, isCounting, isError, Slot, erred, complete, canGrow}
+use Rattle.pattern.specs.Model.{fragmentAt, slotsOf, joinOf, atRest}
 use Rattle.pattern.specs.Model as M
-use Rattle.pattern.proofs.Basics.{both, both-l, both-r, either, either-l, either-r, is-true, is-false, all→, all←, any→, any←, test, zero-one}
+use Rattle.pattern.proofs.Basics.{both, both-l, both-r, either, either-l, either-r, is-true, is-false, all→, all←, any→, any←, test}
 use Rattle.pattern.proofs.Running.{slot, Calm, Running}
-use Rattle.pattern.proofs.Fragment.{Checked, Held}
+use Rattle.pattern.proofs.Fragment.{Checked}
 use Rattle.recogniser.specs.Numbers.{stateOf}
 use Rattle.layout.specs.Layout.{joinNumber}
 use Rattle.layout.specs.Pages.{noRange, rangeAt}
 use Rattle.tables.specs.Cells.{indexIn, anyIn, lessIn, leastIn, mostIn, Cell}
 use Rattle.fragment.specs.Fragments.{noneWaits, completeOf, growsOf}
-use Rattle.fragment.proofs.States.{doneAt, none-waits→, none-waits←}
+use Rattle.fragment.proofs.States.{none-waits→, none-waits←}
 use Rattle.step.specs.declared.RuleState.{RuleState}
 use Rattle.step.specs.Shows.{Sound, Counting}
 use Rattle.step.proofs.Indices.{slot-ranges, slot-at, Placed, placed}

@@ -1,12 +1,12 @@
 -- The role that a cell gives its fragment decides what the model asks of the fragment's number: whether it comes after P, how the rule stands there, and whether an event of it may be late.
 -- Assumes nothing.
 use mathlib.Core.Path.{_≡_, refl, sym, _∙_, ap, ap₂}
-use mathlib.Core.Bool.{Bool, true, false, cond, not, _&&_, _||_, and-false}
+use mathlib.Core.Bool.{Bool, true, false, cond, not, _&&_, and-false}
 use Prim.Native.Nat.{ℕ, zero, suc, _+_, _-_, _/_, _≤_, _<_}
 use native.Mathlib.Omega.{arith}
 use lib.Dec.{leb, ltb, eqb}
 use lib.ListN.{length}
-use borrow.Author.Tests.{le-leb, lt-leb, leb-true, leb-false, lt-ltb, le-ltb, eq-eqb, ne-eqb, eqb-true, eqb-false}
+use borrow.Author.Tests.{le-leb, lt-leb, leb-true, leb-false, lt-ltb, le-ltb, ne-eqb, eqb-true, eqb-false}
 use Rattle.pattern.specs.Meaning.{Kind, once, repeated, timed, Rule, Status, broken, whole, open′}
 use Rattle.pattern.specs.Model.{roundOf, inTime, isOnce, isLast, following, afterP, endAfter}
 use Rattle.pattern.proofs.Basics.{zero-one}

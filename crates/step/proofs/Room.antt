@@ -5,7 +5,7 @@ use mathlib.Core.Bool.{Bool, true, false, cond}
 use Prim.Native.Nat.{ℕ, _<_}
 use lib.Dec.{ltb}
 use borrow.Author.Tests.{ltb-true}
-use Rattle.pattern.specs.Recogniser.{State, counting, error, stateNumber}
+use Rattle.pattern.specs.Recogniser.{counting, error, stateNumber}
 use Rattle.recogniser.specs.Numbers.{nextState}
 
 pub room : (any count u v : ℕ) → (nextState 3 0 any count u v ≡ 5 → ⊥) → count < v

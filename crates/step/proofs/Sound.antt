@@ -1,21 +1,20 @@
 -- A well-formed rule is sound, as its step asks.
 -- Assumes nothing.
-use mathlib.Core.Path.{_≡_, sym, _∙_, ap, subst}
-use mathlib.Core.Bool.{Bool, true, false}
-use mathlib.Core.List.{List, _∷_, _++_}
-use Prim.Native.Nat.{ℕ, suc, _+_, _≤_, _<_}
+use mathlib.Core.Path.{_≡_, sym, _∙_, subst}
+use mathlib.Core.Bool.{false}
+use Prim.Native.Nat.{ℕ, _+_, _≤_, _<_}
 use native.Mathlib.Omega.{arith}
 use lib.Dec.{T}
-use lib.ListN.{length, getD, length-append}
-use Rattle.pattern.specs.Lists.{In, Distinct, Each, isIn}
-use Rattle.pattern.specs.Meaning.{Range, Fragment, fragmentNames, orderingNames, Kind, once, repeated, timed, Rule, namesOf, WellFormedRange, WellFormedFragment, WellFormedKind, WellFormed}
+use lib.ListN.{length, length-append}
+use Rattle.pattern.specs.Lists.{In, Distinct}
+use Rattle.pattern.specs.Meaning.{Range, fragmentNames, orderingNames, Kind, once, repeated, timed, Rule, namesOf, WellFormedRange, WellFormedFragment, WellFormedKind, WellFormed}
 use Rattle.pattern.specs.Model.{lastFragments, roundOf, noFragment, fragmentAt, has}
 use Rattle.pattern.proofs.Basics.{each-in, isIn→, zero-one}
 use Rattle.layout.specs.Pages.{rangeAt, noRange}
 use Rattle.layout.proofs.PageLaws.{each-at, round-formed}
 use Rattle.layout.proofs.Once.{same-place, one-distinct, name-place, ordering-place, round-names}
 use Rattle.tables.specs.Cells.{isTimed}
-use Rattle.step.specs.Shows.{At, Sound}
+use Rattle.step.specs.Shows.{Sound}
 
 some-last : (k : Kind) → WellFormedKind k → 1 ≤ length (lastFragments k)
 some-last (once i) w = omega arith

@@ -1,7 +1,7 @@
 -- One rule over a book's table, in numbers: what the code's functions compute, for every table and every state. For the table of a sheet it is the crate `pattern`'s model (`proofs/Links`
 -- proves that). No promise of an exported call cites it.
 -- Assumes nothing.
-use mathlib.Core.Bool.{Bool, cond, _&&_, _||_}
+use mathlib.Core.Bool.{cond, _&&_, _||_}
 use mathlib.Core.List.{List}
 use Prim.Native.Nat.{ℕ, _+_, _%_}
 use lib.Dec.{eqb}

@@ -30,10 +30,6 @@ timeIn head = head / 4294967296 % 4294967296
 unfoldable pub roundIn : ℕ → ℕ
 roundIn head = cap 16 (countPIn head + byKind (kindIn head) (countQIn head) 1)
 
--- in the head that a book keeps, this number itself stands in the place of Q's count
-abbrev pub lastIn : ℕ → ℕ
-lastIn head = head / 65536 % 256
-
 -- ---- a fragment's
 
 abbrev pub joinIn : ℕ → ℕ

@@ -1,10 +1,11 @@
-// What a number of a book's tables holds (document 01): a rule's eight bytes, a fragment's join and count of ranges, a range's name and bounds.
+// What a number of a book's tables holds (document 01): a rule's eight bytes, a fragment's join and count of ranges, a range's name and bounds; and, in the table that observing looks up, a
+// rule's cells, its t, and the mask of the rules that hold a name.
 ghost use mathlib.Core.Path.{_≡_};
 ghost use mathlib.Core.Bool.{cond};
 ghost use lib.Dec.{eqb};
 ghost use Prim.Native.Nat.{_<_, _≤_};
 ghost use Rattle.tables.specs.Cells.{fragmentIn, indexIn, roleIn, beforeIn, anyIn, lessIn, leastIn, mostIn, cellOf, maskIn, limitIn};
-ghost use Rattle.tables.specs.Words.{kindIn, countPIn, countQIn, triggerIn, timeIn, roundIn, lastIn, joinIn, countIn, nameIn, bitIn, lowIn, highIn};
+ghost use Rattle.tables.specs.Words.{kindIn, countPIn, countQIn, triggerIn, timeIn, roundIn, joinIn, countIn, bitIn, lowIn, highIn};
 
 // ---- a rule's head
 
@@ -60,13 +61,6 @@ fn fragments_last(head: u64) -> u8
     1
 }
 
-// Fragments in the round, as the head that a book keeps says it.
-pub fn last_in_round(head: u64) -> u8
-    ensures { λ r. ⌜ r ≡ lastIn head ⌝ }
-{
-    (head / 65536 % 256) as u8
-}
-
 // ---- a fragment's word
 
 pub fn join(word: u16) -> u8
@@ -86,12 +80,6 @@ pub fn ranges_in(word: u16) -> u8
 }
 
 // ---- a range's word
-
-pub fn name(word: u64) -> u8
-    ensures { λ r. ⌜ r ≡ nameIn word ⌝ }
-{
-    (word % 256) as u8
-}
 
 // The name's place in a set of names: 0 to 63, whatever the number.
 pub fn bit(word: u64) -> u8

@@ -1,5 +1,5 @@
 -- `step::longer` meets its contract: no error means room for one more, so that the count fits. Assumes nothing.
-use mathlib.Core.Path.{sym, _∙_}
+use mathlib.Core.Path.{_∙_}
 use native.Mathlib.Omega.{arith}
 use borrow.Author.Tests.{eq-eqb, ne-eqb}
 use Rattle.step.specs.Steps.{longerOf}
