@@ -13,7 +13,7 @@ use Rattle.tables.specs.Cells.{maskIn}
 use Rattle.words.specs.Words.{Held, heldBy, rulesIn}
 use Rattle.rules.specs.Pass.{Pass, Passes}
 use Rattle.observing.specs.Observe.{judgedOf, refusedOf, takenOf, lookedOf, observeOf}
-use Rattle.observing.specs.Leaving.{Judges, Leaves, Refusal}
+use Rattle.observing.specs.Leaving.{Judges, Leaves}
 use Rattle.observing.specs.declared.Observation.{Observation}
 use Rattle.observing.specs.declared.Observation.the-variants.{Event, Clock}
 use Rattle.rules.specs.declared.Masks.{Masks}
@@ -25,47 +25,32 @@ use Rattle.observing.specs.declared.Answer.the-variants.{Broken, Refused
 pub no-refusal : (v : Verdict) (n : ℕ) → J.verdict v ≡ J.refused n → ⊥
 no-refusal v n e = let w : _≡_ {A = ℕ} 0 1 = cc in zero-one w
 
--- ---- the refusals of an observation whose name is right
-
-module _ (m : Held) (time : ℕ) where
-  pub refused-early : time < m .latest → Refusal m time 11
-  unfolding takenOf
-  refused-early h = record { taken = λ e. absurd (omega (arith, e)); refused = λ n table concerned name. rw (lt-ltb time (m .latest) h) }
-
-  pub refused-full : m .latest ≤ time → 4294967295 ≤ m .taken → Refusal m time 13
-  unfolding takenOf
-  refused-full h g = record {
-    taken = λ e. absurd (omega (arith, e));
-    refused = λ n table concerned name. rw (le-ltb time (m .latest) h, le-leb 4294967295 (m .taken) g);
-  }
-
-  pub not-refused : m .latest ≤ time → m .taken < 4294967295 → Refusal m time 0
-  not-refused h g = record { taken = λ e. (h, g); refused = λ n. absurd (n refl) }
-
 -- ---- what the code leaves
 
 module _ (table before : List ℕ) (concerned name time : ℕ) where
   abbrev m : Held
   m = heldBy before
 
-  pub leaves-refused : (n : ℕ) → Refusal m time n → (n ≡ 0 → ⊥) → Leaves before (takenOf table m concerned name time) (Refused n) before
-  unfolding refusedOf
-  leaves-refused n r h = record { long = λ l. l; leaves = λ l. sym (r .refused h table concerned name); unchanged = λ i e. refl }
+  pub leaves-early : time < m .latest → Leaves before (takenOf table m concerned name time) (Refused 11) before
+  unfolding takenOf refusedOf
+  leaves-early h = record { long = λ l. l; leaves = λ l. sym (rw (lt-ltb time (m .latest) h)); unchanged = λ n e. refl }
 
-  pub leaves-taken : {n : ℕ} → Refusal m time n → n ≡ 0 → (opens dues k : ℕ) → opens ≡ m .mask → dues ≡ m .dues → k ≡ m .taken + 1
+  pub leaves-full : m .latest ≤ time → 4294967295 ≤ m .taken → Leaves before (takenOf table m concerned name time) (Refused 13) before
+  unfolding takenOf refusedOf
+  leaves-full h g = record { long = λ l. l; leaves = λ l. sym (rw (le-ltb time (m .latest) h, le-leb 4294967295 (m .taken) g)); unchanged = λ n e. refl }
+
+  pub leaves-taken : m .latest ≤ time → m .taken < 4294967295 → (opens dues k : ℕ) → opens ≡ m .mask → dues ≡ m .dues → k ≡ m .taken + 1
       → (p : Masks) (between : List ℕ) → Passes table concerned opens dues name time before p between
       → (a : Answer) (after : List ℕ) → Judges between (judgedOf (record { rules = rulesIn between; broken = p .broken; opens = p .opens; dues = p .dues }) k time) a after
       → Leaves before (takenOf table m concerned name time) a after
   unfolding takenOf
-  leaves-taken r zero opens dues k eo ed ek p between passes a after judges =
-      let (h, g) = r .taken zero in
-      record {
-        long = λ l. judges .long (passes .long l);
-        leaves = λ l.
-            judges .leaves (passes .long l) ∙ ap (λ (x : Pass). judgedOf x k time) (passes .passes l)
-            ∙ rw (eo, ed, ek, le-ltb time (m .latest) h, lt-leb 4294967295 (m .taken) g);
-        unchanged = λ n e. absurd (judges .taken n e);
-      }
+  leaves-taken h g opens dues k eo ed ek p between passes a after judges = record {
+    long = λ l. judges .long (passes .long l);
+    leaves = λ l.
+        judges .leaves (passes .long l) ∙ ap (λ (x : Pass). judgedOf x k time) (passes .passes l)
+        ∙ rw (eo, ed, ek, le-ltb time (m .latest) h, lt-leb 4294967295 (m .taken) g);
+    unchanged = λ n e. absurd (judges .taken n e);
+  }
 
 module _ (table before : List ℕ) where
   abbrev m′ : Held

@@ -29,8 +29,3 @@ pub record Judges (before : List ℕ) (o : Observed) (a : Answer) (after : List 
   pub long : length before ≡ 34 → length after ≡ 34
   pub leaves : length before ≡ 34 → record { monitor = heldBy after; answer = a } ≡ o
   pub taken : (n : ℕ) → said a ≡ J.refused n → ⊥
-
--- the refusal of an observation whose name is right, whatever rules it concerns; 0 if it is taken
-pub record Refusal (m : Held) (time n : ℕ) : Type 0 where
-  pub taken : n ≡ 0 → (m .latest ≤ time) × (m .taken < 4294967295)
-  pub refused : (n ≡ 0 → ⊥) → (table : List ℕ) (concerned name : ℕ) → takenOf table m concerned name time ≡ refusedOf m n

@@ -2,7 +2,7 @@
 // reference. What it makes of the rules is crate `rules`; what it means for the book of a sheet is crate `monitor`.
 ghost use Rattle.words.specs.Words.{heldBy, rulesIn};
 ghost use Rattle.observing.specs.Observe.{judgedOf, observeOf};
-ghost use Rattle.observing.specs.Leaving.{Judges, Leaves, Refusal};
+ghost use Rattle.observing.specs.Leaving.{Judges, Leaves};
 ghost use Rattle.observing.specs.declared.Observation.the-variants.{Event, Clock};
 use rules::Masks;
 
@@ -39,21 +39,8 @@ fn judged(m: &mut [u64; 34], p: Masks, k: u32, time: u32) -> Answer
     Answer::Whole
 }
 
-// The refusal of an observation whose name is right: 11 if it comes before the latest one, 13 if the count is full, and 0 if it is taken. "A refused one answers its refusal number alone
-// and changes nothing."
-fn refusal(m: &[u64; 34], time: u32) -> u8
-    ensures { λ n. ⌜ Refusal (heldBy (now (m .entry))) time n ⌝ }
-{
-    if time < words::latest(m) {
-        return 11;
-    }
-    if words::taken(m) == 4294967295 {
-        return 13;
-    }
-    0
-}
-
-// An event. "A stopped book gives that same answer to every later observation, unchecked." A name of 64 or more is refused, so that the table has the name.
+// An event. "A stopped book gives that same answer to every later observation, unchecked." A name of 64 or more is refused, so that the table has the name; then a time before the latest
+// one, and a full count: "A refused one answers its refusal number alone and changes nothing."
 pub fn noted(table: &[u64; 1104], m: &mut [u64; 34], name: u32, time: u32) -> Answer
     ensures { λ r. ⌜ Leaves (now (m .entry)) (observeOf (now (table .entry)) (heldBy (now (m .entry))) (Event name time)) r (now (m .exit)) ⌝ }
 {
@@ -64,11 +51,13 @@ pub fn noted(table: &[u64; 1104], m: &mut [u64; 34], name: u32, time: u32) -> An
         return Answer::Refused(12);
     }
     let concerned = tables::mask_in(table[name as usize]);
-    let n = refusal(m, time);
-    if n != 0 {
-        return Answer::Refused(n);
+    if time < words::latest(m) {
+        return Answer::Refused(11);
     }
     let before = words::taken(m);
+    if before == 4294967295 {
+        return Answer::Refused(13);
+    }
     let opens = words::mask(m);
     let dues = words::dues(m);
     let p = rules::looked(table, m, concerned, opens, dues, name as u8, time);
@@ -82,11 +71,13 @@ pub fn ticked(table: &[u64; 1104], m: &mut [u64; 34], time: u32) -> Answer
     if words::verdict(m) == 2 {
         return Answer::Broken(words::taken(m), words::mask(m));
     }
-    let n = refusal(m, time);
-    if n != 0 {
-        return Answer::Refused(n);
+    if time < words::latest(m) {
+        return Answer::Refused(11);
     }
     let before = words::taken(m);
+    if before == 4294967295 {
+        return Answer::Refused(13);
+    }
     let opens = words::mask(m);
     let dues = words::dues(m);
     let p = rules::held(table, m, opens, dues, time);

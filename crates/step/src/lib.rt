@@ -174,10 +174,10 @@ fn cell_at(table: &[u64; 1104], rule: usize, name: u8) -> u64
 pub fn act(table: &[u64; 1104], r: usize, st: RuleState, name: u8, time: u32) -> Stepped
     ensures { λ s. ⌜ s ≡ actOf (now (table .entry)) (r % 16) st name time ⌝ }
 {
-    let c = cell_at(table, r, name);
     if st.count == 0 {
-        if tables::fragment_in(c) == 0 {
-            return begins(c, name, st.end, time);
+        let first = cell_at(table, r, name);
+        if tables::fragment_in(first) == 0 {
+            return begins(first, name, st.end, time);
         }
         return broken(st);
     }
@@ -188,6 +188,7 @@ pub fn act(table: &[u64; 1104], r: usize, st: RuleState, name: u8, time: u32) ->
             standing: 0,
         };
     }
+    let c = cell_at(table, r, name);
     let limit = tables::limit_in(table[64 + r % 16]);
     if deadline::late(c, limit, st.end, time) {
         return broken(st);

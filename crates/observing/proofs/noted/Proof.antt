@@ -3,7 +3,7 @@
 use mathlib.Core.Path.{_∙_}
 use native.Mathlib.Omega.{arith}
 use denote.Ref.{now}
-use Rattle.observing.proofs.Leaving.{leaves-stopped, leaves-refused, leaves-taken, leaves-unnamed, leaves-named}
+use Rattle.observing.proofs.Leaving.{leaves-stopped, leaves-early, leaves-full, leaves-taken, leaves-unnamed, leaves-named}
 use borrow.Author.Needs.{needs}
 use Rattle.observing.proofs.noted.Statement.{statement}
 use Rattle.observing.proofs.noted.Tie as tie
@@ -32,16 +32,19 @@ element-copy-out-mask-in c = search needs
 mask-in-requires : tie.Need-mask-in-requires
 mask-in-requires c κs = search needs
 
-refusal-requires : tie.Need-refusal-requires
-refusal-requires c κs = search needs
+latest-requires : tie.Need-latest-requires
+latest-requires c κs = search needs
 
 returns-3 : tie.Need-returns-3
-returns-3 c = let a = c .before .before .before .before .before .before .before .before .before .args in
-    leaves-named _ (now (a .m)) (λ e. c .before .before .before .before .before .before .if1 .left (c .before .before .before .before .before .before .before .verdict .ensures ∙ e)) _ _ (omega (arith, c .before .before .before .before .before .if2 .left)) (c .before .before .before .mask-in .ensures)
-    (leaves-refused (now (a .table)) (now (a .m)) (c .before .before .before .mask-in .result) (a .name) (a .time) _ (c .before .refusal .ensures) (c .if3 .taken))
+returns-3 c = leaves-named _ (now (c .before .before .before .before .before .before .before .before .before .args .m)) (λ e. c .before .before .before .before .before .before .if1 .left (c .before .before .before .before .before .before .before .verdict .ensures ∙ e)) _ _ (omega (arith, c .before .before .before .before .before .if2 .left)) (c .before .before .before .mask-in .ensures)
+    (leaves-early (now (c .before .before .before .before .before .before .before .before .before .args .table)) (now (c .before .before .before .before .before .before .before .before .before .args .m)) (c .before .before .before .mask-in .result) (c .before .before .before .before .before .before .before .before .before .args .name) (c .before .before .before .before .before .before .before .before .before .args .time) (omega (arith, c .if3 .taken, c .before .latest .ensures)))
 
 taken-requires-2 : tie.Need-taken-requires-2
 taken-requires-2 c κs = search needs
+
+returns-4 : tie.Need-returns-4
+returns-4 c = leaves-named _ (now (c .before .before .before .before .before .before .before .before .before .before .before .before .args .m)) (λ e. c .before .before .before .before .before .before .before .before .before .if1 .left (c .before .before .before .before .before .before .before .before .before .before .verdict .ensures ∙ e)) _ _ (omega (arith, c .before .before .before .before .before .before .before .before .if2 .left)) (c .before .before .before .before .before .before .mask-in .ensures)
+    (leaves-full (now (c .before .before .before .before .before .before .before .before .before .before .before .before .args .table)) (now (c .before .before .before .before .before .before .before .before .before .before .before .before .args .m)) (c .before .before .before .before .before .before .mask-in .result) (c .before .before .before .before .before .before .before .before .before .before .before .before .args .name) (c .before .before .before .before .before .before .before .before .before .before .before .before .args .time) (omega (arith, c .before .before .before .if3 .left, c .before .before .before .before .latest .ensures)) (omega (arith, c .if4 .taken, c .before .taken2 .ensures)))
 
 mask-requires-2 : tie.Need-mask-requires-2
 mask-requires-2 c κs = search needs
@@ -56,15 +59,14 @@ looked-requires : tie.Need-looked-requires
 looked-requires c κs = search needs
 
 add-judged : tie.Need-add-judged
-add-judged c = omega (arith, c .before .before .before .before .before .before .before .taken2 .ensures, c .before .before .before .before .before .before .before .before .before .before .refusal .ensures .taken (c .before .before .before .before .before .before .before .before .before .if3 .left) .1)
+add-judged c = search needs
 
 judged-requires : tie.Need-judged-requires
 judged-requires c κs = search needs
 
-returns-4 : tie.Need-returns-4
-returns-4 c = let a = c .before .before .before .before .before .before .before .before .before .before .before .before .before .before .before .before .before .before .before .args in
-    leaves-named _ (now (a .m)) (λ e. c .before .before .before .before .before .before .before .before .before .before .before .before .before .before .before .before .if1 .left (c .before .before .before .before .before .before .before .before .before .before .before .before .before .before .before .before .before .verdict .ensures ∙ e)) _ _ (omega (arith, c .before .before .before .before .before .before .before .before .before .before .before .before .before .before .before .if2 .left)) (c .before .before .before .before .before .before .before .before .before .before .before .before .before .mask-in .ensures)
-    (leaves-taken (now (a .table)) (now (a .m)) _ _ _ (c .before .before .before .before .before .before .before .before .before .before .before .refusal .ensures) (c .before .before .before .before .before .before .before .before .before .before .if3 .left) _ _ _ (c .before .before .before .before .before .before .mask2 .ensures) (c .before .before .before .before .dues .ensures) (omega (arith, c .before .before .before .before .before .before .before .before .taken2 .ensures)) _ _ (c .before .before .looked .ensures) _ _ (c .judged .ensures))
+returns-5 : tie.Need-returns-5
+returns-5 c = leaves-named _ (now (c .before .before .before .before .before .before .before .before .before .before .before .before .before .before .before .before .before .before .before .before .args .m)) (λ e. c .before .before .before .before .before .before .before .before .before .before .before .before .before .before .before .before .before .if1 .left (c .before .before .before .before .before .before .before .before .before .before .before .before .before .before .before .before .before .before .verdict .ensures ∙ e)) _ _ (omega (arith, c .before .before .before .before .before .before .before .before .before .before .before .before .before .before .before .before .if2 .left)) (c .before .before .before .before .before .before .before .before .before .before .before .before .before .before .mask-in .ensures)
+    (leaves-taken (now (c .before .before .before .before .before .before .before .before .before .before .before .before .before .before .before .before .before .before .before .before .args .table)) (now (c .before .before .before .before .before .before .before .before .before .before .before .before .before .before .before .before .before .before .before .before .args .m)) _ _ _ (omega (arith, c .before .before .before .before .before .before .before .before .before .before .before .if3 .left, c .before .before .before .before .before .before .before .before .before .before .before .before .latest .ensures)) (omega (arith, c .before .before .before .before .before .before .before .before .if4 .left, c .before .before .before .before .before .before .before .before .before .taken2 .ensures, c .before .before .before .before .before .before .before .before .before .taken2 .ok)) _ _ _ (c .before .before .before .before .before .before .mask2 .ensures) (c .before .before .before .before .dues .ensures) (omega (arith, c .before .before .before .before .before .before .before .before .before .taken2 .ensures)) _ _ (c .before .before .looked .ensures) _ _ (c .judged .ensures))
 
 pub noted-spec : {M : Type 1} → statement M
-noted-spec = tie.close (tie.spec verdict-requires taken-requires mask-requires returns returns-2 mul-mask-in element-copy-out-mask-in mask-in-requires refusal-requires returns-3 taken-requires-2 mask-requires-2 dues-requires cast-looked looked-requires add-judged judged-requires returns-4)
+noted-spec = tie.close (tie.spec verdict-requires taken-requires mask-requires returns returns-2 mul-mask-in element-copy-out-mask-in mask-in-requires latest-requires returns-3 taken-requires-2 returns-4 mask-requires-2 dues-requires cast-looked looked-requires add-judged judged-requires returns-5)

@@ -2,7 +2,7 @@
 use mathlib.Core.Path.{_∙_}
 use native.Mathlib.Omega.{arith}
 use denote.Ref.{now}
-use Rattle.observing.proofs.Leaving.{leaves-stopped, leaves-refused, leaves-taken, leaves-clock}
+use Rattle.observing.proofs.Leaving.{leaves-stopped, leaves-early, leaves-full, leaves-taken, leaves-clock}
 use borrow.Author.Needs.{needs}
 use Rattle.observing.proofs.ticked.Statement.{statement}
 use Rattle.observing.proofs.ticked.Tie as tie
@@ -19,16 +19,19 @@ mask-requires c κs = search needs
 returns : tie.Need-returns
 returns c = leaves-stopped _ (now (c .before .before .before .before .before .before .before .args .m)) _ (omega (arith, c .before .before .before .before .if1 .taken, c .before .before .before .before .before .verdict .ensures)) _ _ (c .before .before .taken .ensures) (c .mask .ensures)
 
-refusal-requires : tie.Need-refusal-requires
-refusal-requires c κs = search needs
+latest-requires : tie.Need-latest-requires
+latest-requires c κs = search needs
 
 returns-2 : tie.Need-returns-2
-returns-2 c = let a = c .before .before .before .before .before .before .args in
-    leaves-clock _ (now (a .m)) (λ e. c .before .before .before .if1 .left (c .before .before .before .before .verdict .ensures ∙ e)) _
-    (leaves-refused (now (a .table)) (now (a .m)) 0 0 (a .time) _ (c .before .refusal .ensures) (c .if2 .taken))
+returns-2 c = leaves-clock _ (now (c .before .before .before .before .before .before .args .m)) (λ e. c .before .before .before .if1 .left (c .before .before .before .before .verdict .ensures ∙ e)) _
+    (leaves-early (now (c .before .before .before .before .before .before .args .table)) (now (c .before .before .before .before .before .before .args .m)) 0 0 (c .before .before .before .before .before .before .args .time) (omega (arith, c .if2 .taken, c .before .latest .ensures)))
 
 taken-requires-2 : tie.Need-taken-requires-2
 taken-requires-2 c κs = search needs
+
+returns-3 : tie.Need-returns-3
+returns-3 c = leaves-clock _ (now (c .before .before .before .before .before .before .before .before .before .args .m)) (λ e. c .before .before .before .before .before .before .if1 .left (c .before .before .before .before .before .before .before .verdict .ensures ∙ e)) _
+    (leaves-full (now (c .before .before .before .before .before .before .before .before .before .args .table)) (now (c .before .before .before .before .before .before .before .before .before .args .m)) 0 0 (c .before .before .before .before .before .before .before .before .before .args .time) (omega (arith, c .before .before .before .if2 .left, c .before .before .before .before .latest .ensures)) (omega (arith, c .if3 .taken, c .before .taken2 .ensures)))
 
 mask-requires-2 : tie.Need-mask-requires-2
 mask-requires-2 c κs = search needs
@@ -40,15 +43,14 @@ held-requires : tie.Need-held-requires
 held-requires c κs = search needs
 
 add-judged : tie.Need-add-judged
-add-judged c = omega (arith, c .before .before .before .before .before .before .before .taken2 .ensures, c .before .before .before .before .before .before .before .before .before .before .refusal .ensures .taken (c .before .before .before .before .before .before .before .before .before .if2 .left) .1)
+add-judged c = search needs
 
 judged-requires : tie.Need-judged-requires
 judged-requires c κs = search needs
 
-returns-3 : tie.Need-returns-3
-returns-3 c = let a = c .before .before .before .before .before .before .before .before .before .before .before .before .before .before .before .before .args in
-    leaves-clock _ (now (a .m)) (λ e. c .before .before .before .before .before .before .before .before .before .before .before .before .before .if1 .left (c .before .before .before .before .before .before .before .before .before .before .before .before .before .before .verdict .ensures ∙ e)) _
-    (leaves-taken (now (a .table)) (now (a .m)) 0 0 (a .time) (c .before .before .before .before .before .before .before .before .before .before .before .refusal .ensures) (c .before .before .before .before .before .before .before .before .before .before .if2 .left) _ _ _ (c .before .before .before .before .before .before .mask2 .ensures) (c .before .before .before .before .dues .ensures) (omega (arith, c .before .before .before .before .before .before .before .before .taken2 .ensures)) _ _ (c .before .before .held .ensures 0) _ _ (c .judged .ensures))
+returns-4 : tie.Need-returns-4
+returns-4 c = leaves-clock _ (now (c .before .before .before .before .before .before .before .before .before .before .before .before .before .before .before .before .before .args .m)) (λ e. c .before .before .before .before .before .before .before .before .before .before .before .before .before .before .if1 .left (c .before .before .before .before .before .before .before .before .before .before .before .before .before .before .before .verdict .ensures ∙ e)) _
+    (leaves-taken (now (c .before .before .before .before .before .before .before .before .before .before .before .before .before .before .before .before .before .args .table)) (now (c .before .before .before .before .before .before .before .before .before .before .before .before .before .before .before .before .before .args .m)) 0 0 (c .before .before .before .before .before .before .before .before .before .before .before .before .before .before .before .before .before .args .time) (omega (arith, c .before .before .before .before .before .before .before .before .before .before .before .if2 .left, c .before .before .before .before .before .before .before .before .before .before .before .before .latest .ensures)) (omega (arith, c .before .before .before .before .before .before .before .before .if3 .left, c .before .before .before .before .before .before .before .before .before .taken2 .ensures, c .before .before .before .before .before .before .before .before .before .taken2 .ok)) _ _ _ (c .before .before .before .before .before .before .mask2 .ensures) (c .before .before .before .before .dues .ensures) (omega (arith, c .before .before .before .before .before .before .before .before .before .taken2 .ensures)) _ _ (c .before .before .held .ensures 0) _ _ (c .judged .ensures))
 
 pub ticked-spec : {M : Type 1} → statement M
-ticked-spec = tie.close (tie.spec verdict-requires taken-requires mask-requires returns refusal-requires returns-2 taken-requires-2 mask-requires-2 dues-requires held-requires add-judged judged-requires returns-3)
+ticked-spec = tie.close (tie.spec verdict-requires taken-requires mask-requires returns latest-requires returns-2 taken-requires-2 returns-3 mask-requires-2 dues-requires held-requires add-judged judged-requires returns-4)
