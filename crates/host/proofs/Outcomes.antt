@@ -55,13 +55,12 @@ module _ (sheet : List ℕ) (bytes : Bytes sheet) where
         look (accepted S) p = absurd (let z : _≡_ {A = ℕ} 0 1 = cc p in omega arith)
         look (refused k q) p = is ∙ ap₂ turnedAway (cc p) (cc p)
 
-    pub sheet-accepted : tagOf the-type (t .answer) ≡ 0 → Runs (t .book .heads) (t .book .fragments) (t .book .names) (t .book .ranges) (t .book .holders) log budget r → Outcomes sheet log budget r
+    pub sheet-accepted : tagOf the-type (t .answer) ≡ 0 → Runs (t .book .table) log budget r → Outcomes sheet log budget r
     sheet-accepted e runs oracle judging = look (readSheet sheet) refl (sym e ∙ ap (tagOf the-type) (translates .answers))
       where
         look : (x : R.Outcome) → readSheet sheet ≡ x → 0 ≡ tagOf the-type (answerOf x) → r ≡ outcomeBy oracle x log budget
         look (accepted S) f p =
-            runs S (t .book) (accepted-is-encoded sheet bytes f .formed) (translated sheet t bytes translates S f)
-            (record { heads′ = refl; fragments′ = refl; names′ = refl; ranges′ = refl; holders′ = refl }) oracle (judging S f)
+            runs S (t .book) (accepted-is-encoded sheet bytes f .formed) (translated sheet t bytes translates S f) refl oracle (judging S f)
         look (refused k q) f p = absurd (omega arith)
 
 -- ---- the call

@@ -19,15 +19,7 @@ pub fn outcome(sheet: &[u8], log: &[u8], budget: u32) -> Outcome
     match answer {
         sheet::Answer::Accepted => {
             let b = t.book;
-            runner::run(
-                &b.heads,
-                &b.fragments,
-                &b.names,
-                &b.ranges,
-                &b.holders,
-                log,
-                budget,
-            )
+            runner::run(&b.table, log, budget)
         }
         sheet::Answer::Refused { number, place } => {
             let at = place as u32;

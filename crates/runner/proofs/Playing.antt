@@ -13,7 +13,7 @@ use Rattle.layout.specs.Layout.{Sheet, WellFormedSheet}
 use Rattle.book.specs.Looks.{Looks}
 use Rattle.book.specs.declared.Book.{Book}
 use Rattle.observing.specs.declared.Observation.{Observation}
-use Rattle.monitor.specs.Promise.{seen, Lends, Follows, Freshes}
+use Rattle.monitor.specs.Promise.{seen, Follows, Freshes}
 use Rattle.monitor.proofs.Agreement.{follows-taken, follows-verdict}
 use Rattle.runner.specs.Log.{recordAt, ended, stops, stoppedBy, turnAt, play}
 use Rattle.runner.specs.Runs.{Plays, Turns, TurnsLent, endedIn}
@@ -43,33 +43,33 @@ pub record Reached (oracle : Oracle) (S : Sheet) (b : Book) (log : List ℕ) (n 
   pub follows : Follows S k b m
   pub rest : play oracle log nothing 0 n ≡ play oracle log k i (n - i)
 
-module _ (heads fragments names ranges holders log : List ℕ) (n : ℕ) where
+module _ (table log : List ℕ) (n : ℕ) where
   abbrev pub Playing : List ℕ → ℕ → Type 0
   Playing m i =
-      (i ≤ n) × ((S : Sheet) (b : Book) → WellFormedSheet S → Looks S b → Lends heads fragments names ranges holders b
+      (i ≤ n) × ((S : Sheet) (b : Book) → WellFormedSheet S → Looks S b → b .table ≡ table
       → (oracle : Oracle) → Right (S .rules) oracle → Reached oracle S b log n m i)
 
-  pub start : (m : List ℕ) → Freshes fragments m → Playing m 0
+  pub start : (m : List ℕ) → Freshes m → Playing m 0
   start m fresh = (
     omega arith,
     λ S b formed looks lent oracle right. record {
       k = nothing;
-      follows = fresh S b formed looks (lent .fragments′);
+      follows = fresh S b formed looks;
       rest = let z : n - 0 ≡ n = omega arith in rw z;
     },
   )
 
   module _ (m : List ℕ) (i : ℕ) (playing : Playing m i) where
-    pub done : n ≤ i → (r : Outcome) → r ≡ endedIn m → Plays heads fragments names ranges holders log n r
+    pub done : n ≤ i → (r : Outcome) → r ≡ endedIn m → Plays table log n r
     done h r e S b formed looks lent oracle right =
         let p = playing .1 S b formed looks lent oracle right in
         let z : n - i ≡ 0 = omega arith in
         e ∙ ap₂ ended (follows-verdict S (p .k) b m (p .follows)) (follows-taken S (p .k) b m (p .follows))
         ∙ sym (p .rest ∙ ap (play oracle log (p .k) i) z ∙ play-end oracle log (p .k) i)
 
-    module _ (h : i < n) (o : Observation) (is : seen o ≡ recordAt log i) (t : Turned) (next : List ℕ) (turns : TurnsLent heads fragments names ranges holders m o (5 * i) t next) where
+    module _ (h : i < n) (o : Observation) (is : seen o ≡ recordAt log i) (t : Turned) (next : List ℕ) (turns : TurnsLent table m o (5 * i) t next) where
       -- the judge's turn at record i
-      module _ (S : Sheet) (b : Book) (formed : WellFormedSheet S) (looks : Looks S b) (lent : Lends heads fragments names ranges holders b) (oracle : Oracle) (right : Right (S .rules) oracle) where
+      module _ (S : Sheet) (b : Book) (formed : WellFormedSheet S) (looks : Looks S b) (lent : b .table ≡ table) (oracle : Oracle) (right : Right (S .rules) oracle) where
         reached : Reached oracle S b log n m i
         reached = playing .1 S b formed looks lent oracle right
 
@@ -93,7 +93,7 @@ module _ (heads fragments names ranges holders log : List ℕ) (n : ℕ) where
             },
       )
 
-      pub stop : t .stops ≡ true → Plays heads fragments names ranges holders log n (t .outcome)
+      pub stop : t .stops ≡ true → Plays table log n (t .outcome)
       stop e S b formed looks lent oracle right =
           let p = reached S b formed looks lent oracle right in
           let q = turned S b formed looks lent oracle right in

@@ -29,10 +29,10 @@ module _ (oracle : Oracle) (log : List ℕ) (budget : ℕ) where
   unfolding runOf
   run-played e = ap (λ (t : Bool). cond t (turnedAway 14 0) (play oracle log nothing 0 (atMost log budget))) e
 
-module _ (log : List ℕ) (budget : ℕ) {heads fragments names ranges holders : List ℕ} {r : Outcome} where
-  pub runs-turned : badLength log ≡ true → r ≡ turnedAway 14 0 → Runs heads fragments names ranges holders log budget r
+module _ (log : List ℕ) (budget : ℕ) {table : List ℕ} {r : Outcome} where
+  pub runs-turned : badLength log ≡ true → r ≡ turnedAway 14 0 → Runs table log budget r
   runs-turned e is S b formed looks lent oracle right = is ∙ sym (run-turned oracle log budget e)
 
-  pub runs-played : (n : ℕ) → badLength log ≡ false → n ≡ atMost log budget → Plays heads fragments names ranges holders log n r → Runs heads fragments names ranges holders log budget r
+  pub runs-played : (n : ℕ) → badLength log ≡ false → n ≡ atMost log budget → Plays table log n r → Runs table log budget r
   runs-played n e is plays S b formed looks lent oracle right =
       plays S b formed looks lent oracle right ∙ ap (play oracle log nothing 0) is ∙ sym (run-played oracle log budget e)

@@ -17,7 +17,7 @@ use Rattle.observing.specs.declared.Observation.{Observation}
 use Rattle.observing.specs.declared.Answer.{Answer}
 use Rattle.observing.specs.declared.Answer.the-variants.{Whole, Open, Broken, Refused}
 use Rattle.observing.proofs.Answer.{the-type}
-use Rattle.monitor.specs.Promise.{said, seen, verdictIn, Says, Follows, Lends, ObservesLent}
+use Rattle.monitor.specs.Promise.{said, seen, verdictIn, Says, Follows, ObservesLent}
 use Rattle.monitor.proofs.Agreement.{follows-taken, follows-verdict}
 use Rattle.runner.specs.Log.{ended, openMask, refusedAt, stops, stoppedBy}
 use Rattle.runner.specs.Runs.{Turns, TurnsLent, endedIn}
@@ -74,9 +74,9 @@ goes (Refused n) h = absurd (⊎-elim (λ e. omega arith) (λ e. omega arith) h)
 
 -- ---- one observation's answer
 
-module _ {heads fragments names ranges holders before after : List ℕ} {o : Observation} {s : Answer} (observes : ObservesLent heads fragments names ranges holders before o s after) (at : ℕ) (t : Turned) where
+module _ {table before after : List ℕ} {o : Observation} {s : Answer} (observes : ObservesLent table before o s after) (at : ℕ) (t : Turned) where
   -- what is known of a turn, whatever the answer
-  module _ (b : Book) (lent : Lends heads fragments names ranges holders b) (S : Sheet) (k : Kept) (f : Follows S k b before) (oracle : Oracle) (right : Right (S .rules) oracle) where
+  module _ (b : Book) (lent : b .table ≡ table) (S : Sheet) (k : Kept) (f : Follows S k b before) (oracle : Oracle) (right : Right (S .rules) oracle) where
     answered : said s ≡ judge oracle k (seen o) .answer
     answered = observes b lent .answers S k f oracle right
 
@@ -96,16 +96,16 @@ module _ {heads fragments names ranges holders before after : List ℕ} {o : Obs
   never : {A : Type 0} → false ≡ true → A
   never e = let z : _≡_ {A = ℕ} 0 1 = cc in absurd (omega arith)
 
-  pub turn-goes : (variant s ≡ 0) ⊎ (variant s ≡ 1) → t .stops ≡ false → TurnsLent heads fragments names ranges holders before o at t after
+  pub turn-goes : (variant s ≡ 0) ⊎ (variant s ≡ 1) → t .stops ≡ false → TurnsLent table before o at t after
   turn-goes h st b lent S k f oracle right = turns b lent S k f oracle right s refl (st ∙ sym (goes s h)) (λ e. never (sym st ∙ e))
 
-  pub turn-broken : {j x : ℕ} → s ≡ Broken j x → t .stops ≡ true → t .outcome ≡ ended (J.brokenAt j x) (heldBy after .taken) → TurnsLent heads fragments names ranges holders before o at t after
+  pub turn-broken : {j x : ℕ} → s ≡ Broken j x → t .stops ≡ true → t .outcome ≡ ended (J.brokenAt j x) (heldBy after .taken) → TurnsLent table before o at t after
   turn-broken {j} {x} e st says b lent S k f oracle right =
       turns b lent S k f oracle right (Broken j x) e st
       (λ h. says ∙ ap (ended (J.brokenAt j x)) (follows-taken S (judge oracle k (seen o) .kept) b after (followed b lent S k f oracle right)))
 
   -- the words are as they were before a refused record
-  pub turn-refused : {n : ℕ} → s ≡ Refused n → t .stops ≡ true → t .outcome ≡ refusedAt n (verdictIn (heldBy after)) (heldBy after .taken) at → TurnsLent heads fragments names ranges holders before o at t after
+  pub turn-refused : {n : ℕ} → s ≡ Refused n → t .stops ≡ true → t .outcome ≡ refusedAt n (verdictIn (heldBy after)) (heldBy after .taken) at → TurnsLent table before o at t after
   turn-refused {n} e st says b lent S k f oracle right =
       turns b lent S k f oracle right (Refused n) e st
       (λ h. says ∙ ap (λ (m : List ℕ). refusedAt n (verdictIn (heldBy m)) (heldBy m .taken) at) (observes b lent .unchanged n (ap said e))

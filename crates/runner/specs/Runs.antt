@@ -11,21 +11,21 @@ use Rattle.book.specs.Looks.{Looks}
 use Rattle.book.specs.declared.Book.{Book}
 use Rattle.words.specs.Words.{heldBy}
 use Rattle.observing.specs.declared.Observation.{Observation}
-use Rattle.monitor.specs.Promise.{seen, verdictIn, Lends, Follows}
+use Rattle.monitor.specs.Promise.{seen, verdictIn, Follows}
 use Rattle.runner.specs.Log.{ended, stops, stoppedBy, play, runOf}
 use Rattle.runner.specs.declared.Outcome.{Outcome}
 use Rattle.runner.specs.declared.Turned.{Turned}
 
--- ---- the promise of a run: for the book of a well-formed sheet, whatever judge. Of other arrays the outcome is the program's choice
-abbrev pub Runs : List ℕ → List ℕ → List ℕ → List ℕ → List ℕ → List ℕ → ℕ → Outcome → Type 0
-Runs heads fragments names ranges holders log budget r =
-    (S : Sheet) (b : Book) → WellFormedSheet S → Looks S b → Lends heads fragments names ranges holders b
+-- ---- the promise of a run: for the table of a well-formed sheet's book, whatever judge. Of another table the outcome is the program's choice
+abbrev pub Runs : List ℕ → List ℕ → ℕ → Outcome → Type 0
+Runs table log budget r =
+    (S : Sheet) (b : Book) → WellFormedSheet S → Looks S b → b .table ≡ table
     → (oracle : Oracle) → Right (S .rules) oracle → r ≡ runOf oracle log budget
 
 -- the same of the records alone, n of them
-abbrev pub Plays : List ℕ → List ℕ → List ℕ → List ℕ → List ℕ → List ℕ → ℕ → Outcome → Type 0
-Plays heads fragments names ranges holders log n r =
-    (S : Sheet) (b : Book) → WellFormedSheet S → Looks S b → Lends heads fragments names ranges holders b
+abbrev pub Plays : List ℕ → List ℕ → ℕ → Outcome → Type 0
+Plays table log n r =
+    (S : Sheet) (b : Book) → WellFormedSheet S → Looks S b → b .table ≡ table
     → (oracle : Oracle) → Right (S .rules) oracle → r ≡ play oracle log nothing 0 n
 
 -- ---- one record
@@ -36,9 +36,9 @@ pub record Turns (oracle : Oracle) (S : Sheet) (k : Kept) (b : Book) (o : J.Obse
   pub says : r .stops ≡ true → r .outcome ≡ stoppedBy (judge oracle k o .answer) k (judge oracle k o .kept) at
   pub follows : Follows S (judge oracle k o .kept) b after
 
-abbrev pub TurnsLent : List ℕ → List ℕ → List ℕ → List ℕ → List ℕ → List ℕ → Observation → ℕ → Turned → List ℕ → Type 0
-TurnsLent heads fragments names ranges holders before o at r after =
-    (b : Book) → Lends heads fragments names ranges holders b → (S : Sheet) (k : Kept) → Follows S k b before
+abbrev pub TurnsLent : List ℕ → List ℕ → Observation → ℕ → Turned → List ℕ → Type 0
+TurnsLent table before o at r after =
+    (b : Book) → b .table ≡ table → (S : Sheet) (k : Kept) → Follows S k b before
     → (oracle : Oracle) → Right (S .rules) oracle → Turns oracle S k b (seen o) at r after
 
 -- what a monitor says, once nothing more is looked at

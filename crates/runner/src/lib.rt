@@ -1,5 +1,5 @@
 // A run over a log (document 01, "Running a log"): records are observed one after the other, from a fresh monitor, until a refusal, a break, the budget or the log's end.
-// The monitor's words are the run's own and are changed in place; the book's arrays are lent by reference.
+// The monitor's words are the run's own and are changed in place; the book's table is lent by reference.
 ghost use mathlib.Core.Path.{_≡_};
 ghost use mathlib.Core.Bool.{true, false};
 ghost use Prim.Native.Nat.{_+_, _*_, _<_, _≤_, min};
@@ -182,19 +182,10 @@ fn stopped(outcome: Outcome) -> Turned
 }
 
 // One record's observation: "Only a refusal or a break stops" the run.
-fn turn<'a>(
-    heads: &'a [u64; 16],
-    fragments: &'a [u16; 256],
-    names: &'a [u64; 256],
-    ranges: &'a [u64; 2048],
-    holders: &'a [u16; 64],
-    m: &mut [u64; 34],
-    o: Observation,
-    at: u32,
-) -> Turned
-    ensures { λ r. ⌜ TurnsLent (now (heads .entry)) (now (fragments .entry)) (now (names .entry)) (now (ranges .entry)) (now (holders .entry)) (now (m .entry)) o at r (now (m .exit)) ⌝ }
+fn turn(table: &[u64; 1104], m: &mut [u64; 34], o: Observation, at: u32) -> Turned
+    ensures { λ r. ⌜ TurnsLent (now (table .entry)) (now (m .entry)) o at r (now (m .exit)) ⌝ }
 {
-    let answer = monitor::observe(heads, fragments, names, ranges, holders, m, o);
+    let answer = monitor::observe(table, m, o);
     match answer {
         Answer::Broken(k, mask) => stopped(broken(k, mask, monitor::count(m))),
         Answer::Refused(number) => stopped(refused_at(number, m, at)),
@@ -205,24 +196,16 @@ fn turn<'a>(
 // ---- the records one after the other
 
 // At most n records, from a fresh monitor on.
-fn play<'a>(
-    heads: &'a [u64; 16],
-    fragments: &'a [u16; 256],
-    names: &'a [u64; 256],
-    ranges: &'a [u64; 2048],
-    holders: &'a [u16; 64],
-    log: &[u8],
-    n: u32,
-) -> Outcome
+fn play(table: &[u64; 1104], log: &[u8], n: u32) -> Outcome
     requires { ⌜ (5 * n ≤ length (now log)) × (length (now log) ≤ 4294967295) ⌝ }
-    ensures { λ r. ⌜ Plays (now (heads .entry)) (now (fragments .entry)) (now (names .entry)) (now (ranges .entry)) (now (holders .entry)) (now (log .entry)) n r ⌝ }
+    ensures { λ r. ⌜ Plays (now (table .entry)) (now (log .entry)) n r ⌝ }
 {
-    let mut m = monitor::fresh(fragments);
+    let mut m = monitor::fresh();
     let mut i = 0u32;
     while i < n {
         let at = 5 * i;
         let o = record_from(log, at as usize);
-        let t = turn(heads, fragments, names, ranges, holders, &mut m, o, at);
+        let t = turn(table, &mut m, o, at);
         if t.stops {
             return t.outcome;
         }
@@ -241,18 +224,10 @@ fn at_most(budget: u32, count: u32) -> u32
     count
 }
 
-// A run over a log under the book whose arrays are lent: 14 if the log is no list of records; else the judge's answers to its records, up to the budget.
-// For arrays that are no sheet's book the outcome is the program's choice; the call returns, and touches nothing.
-pub fn run<'a>(
-    heads: &'a [u64; 16],
-    fragments: &'a [u16; 256],
-    names: &'a [u64; 256],
-    ranges: &'a [u64; 2048],
-    holders: &'a [u16; 64],
-    log: &[u8],
-    budget: u32,
-) -> Outcome
-    ensures { λ r. ⌜ Runs (now (heads .entry)) (now (fragments .entry)) (now (names .entry)) (now (ranges .entry)) (now (holders .entry)) (now (log .entry)) budget r ⌝ }
+// A run over a log under the book whose table is lent: 14 if the log is no list of records; else the judge's answers to its records, up to the budget.
+// For a table of no sheet's book the outcome is the program's choice; the call returns, and touches nothing.
+pub fn run(table: &[u64; 1104], log: &[u8], budget: u32) -> Outcome
+    ensures { λ r. ⌜ Runs (now (table .entry)) (now (log .entry)) budget r ⌝ }
 {
     let len = log.len();
     if len % 5 != 0 {
@@ -262,5 +237,5 @@ pub fn run<'a>(
         return turned_away();
     }
     let n = at_most(budget, (len / 5) as u32);
-    play(heads, fragments, names, ranges, holders, log, n)
+    play(table, log, n)
 }

@@ -24,7 +24,7 @@ cast-at : tie.Need-cast-at
 cast-at c = omega (arith, place-fits (c .before .before .before .before .before .before .args .sheet .now) (bytes-of (c .before .before .before .before .before .before .args .sheet .now) (λ i. c .before .before .before .before .before .shared-slice-known .given i .fits)) (c .before .before .before .translate .result) (c .before .before .before .translate .ensures) (c .before .answer .given .1))
 
 returns : tie.Need-returns
-returns c = sheet-accepted (c .before .before .before .before .before .before .before .before .before .before .before .before .before .args .sheet .now) (bytes-of (c .before .before .before .before .before .before .before .before .before .before .before .before .before .args .sheet .now) (λ i. c .before .before .before .before .before .before .before .before .before .before .before .before .shared-slice-known .given i .fits)) (c .before .before .before .before .before .before .before .before .before .before .translate .result) (c .before .before .before .before .before .before .before .before .before .before .translate .ensures) (c .before .before .before .before .before .before .before .before .before .before .before .before .before .args .log .now) (c .before .before .before .before .before .before .before .before .before .before .before .before .before .args .budget) (c .run .result) (c .before .before .before .before .before .before .before .before .before .match .keys1) (c .run .ensures)
+returns c = sheet-accepted (c .before .before .before .before .before .before .before .before .before .args .sheet .now) (bytes-of (c .before .before .before .before .before .before .before .before .before .args .sheet .now) (λ i. c .before .before .before .before .before .before .before .before .shared-slice-known .given i .fits)) (c .before .before .before .before .before .before .translate .result) (c .before .before .before .before .before .before .translate .ensures) (c .before .before .before .before .before .before .before .before .before .args .log .now) (c .before .before .before .before .before .before .before .before .before .args .budget) (c .run .result) (c .before .before .before .before .before .match .keys1) (c .run .ensures)
 
 returns-2 : tie.Need-returns-2
 returns-2 c = sheet-refused (c .before .before .before .before .before .before .args .sheet .now) (bytes-of (c .before .before .before .before .before .before .args .sheet .now) (λ i. c .before .before .before .before .before .shared-slice-known .given i .fits)) (c .before .before .before .translate .result) (c .before .before .before .translate .ensures) (c .before .before .before .before .before .before .args .log .now) (c .before .before .before .before .before .before .args .budget) _ (c .before .answer .given .1) refl

@@ -7,11 +7,11 @@ use Rattle.runner.proofs.play.Statement.{statement}
 use Rattle.runner.proofs.play.Tie as tie
 
 abbrev Inv-loop : tie.InvT-loop
-Inv-loop heads fragments names ranges holders log n m₀ i₀ m i =
-    Playing heads fragments names ranges holders log n m i
+Inv-loop table log n m₀ i₀ m i =
+    Playing table log n m i
 
 abbrev μ-loop : tie.MeasureT-loop
-μ-loop heads fragments names ranges holders log n m₀ i₀ m i =
+μ-loop table log n m₀ i₀ m i =
     n - i
 
 fresh-requires : tie.Need-fresh-requires Inv-loop μ-loop
@@ -19,7 +19,7 @@ fresh-requires c κs = search needs
 
 loop-holds : tie.Need-loop-holds Inv-loop μ-loop
 loop-holds c =
-    start _ _ _ _ _ _ _ _ (c .fresh .ensures)
+    start _ _ _ _ (c .fresh .ensures)
 
 mul-at : tie.Need-mul-at Inv-loop μ-loop
 mul-at c =
@@ -38,7 +38,7 @@ turn-requires c κs = search needs
 
 returns : tie.Need-returns Inv-loop μ-loop
 returns c =
-    stop _ _ _ _ _ _ _ _ _ (c .before .before .before .before .before .before .loop .inv) (c .before .before .before .before .before .loop-test .taken) (c .before .before .before .before .record-from .result) (c .before .before .before .before .record-from .ensures) _ _ (c .before .before .turn .ensures) (c .before .if1 .taken)
+    stop _ _ _ _ _ (c .before .before .before .before .before .before .loop .inv) (c .before .before .before .before .before .loop-test .taken) (c .before .before .before .before .record-from .result) (c .before .before .before .before .record-from .ensures) _ _ (c .before .before .turn .ensures) (c .before .if1 .taken)
 
 add-i : tie.Need-add-i Inv-loop μ-loop
 add-i c =
@@ -50,14 +50,14 @@ loop-less c =
 
 loop-again : tie.Need-loop-again Inv-loop μ-loop
 loop-again c =
-    more _ _ _ _ _ _ _ _ _ (c .before .before .before .before .before .loop .inv) (c .before .before .before .before .loop-test .taken) (c .before .before .before .record-from .result) (c .before .before .before .record-from .ensures) _ _ (c .before .turn .ensures) (c .if1 .left)
+    more _ _ _ _ _ (c .before .before .before .before .before .loop .inv) (c .before .before .before .before .loop-test .taken) (c .before .before .before .record-from .result) (c .before .before .before .record-from .ensures) _ _ (c .before .turn .ensures) (c .if1 .left)
 
 ended-requires : tie.Need-ended-requires Inv-loop μ-loop
 ended-requires c κs = search needs
 
 returns-2 : tie.Need-returns-2 Inv-loop μ-loop
 returns-2 c =
-    done _ _ _ _ _ _ _ _ _ (c .before .before .before .loop .inv) (c .before .before .loop-test .left) _ (c .ended .ensures)
+    done _ _ _ _ _ (c .before .before .before .loop .inv) (c .before .before .loop-test .left) _ (c .ended .ensures)
 
 pub play-spec : {M : Type 1} → statement M
 play-spec =
