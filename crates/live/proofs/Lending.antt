@@ -1,16 +1,13 @@
 -- A live session: opening, observing, and demand 3 for the calls one after the other, `live-agreement`.
 -- Assumes nothing.
 use mathlib.Core.Path.{_≡_, refl, sym, _∙_, ap, ap₂, subst}
-use mathlib.Core.Bool.{Bool, true, false, cond}
 use mathlib.Core.List.{List, [], _∷_, map}
-use Prim.Native.Nat.{ℕ, _%_, _<_, _≤_}
+use Prim.Native.Nat.{ℕ, _%_}
 use native.Mathlib.Omega.{arith}
-use lib.Dec.{leb}
 use denote.Enum.Declared.{tagOf}
-use borrow.Author.Tests.{leb-true, leb-false, le-leb, eq-eqb, ne-eqb}
-use Rattle.pattern.specs.Judge.{Observation, event, clock, Oracle, Right, Verdict, allWhole, someOpen, brokenAt, Kept, nothing, Turn, judge, unlessBroken, judgeAnswers, judgeKeeps}
+use Rattle.pattern.specs.Judge.{Observation, Oracle, Right, Kept, nothing, judge, judgeAnswers, judgeKeeps}
 use Rattle.pattern.specs.Judge as J
-use Rattle.layout.specs.Layout.{Sheet, WellFormedSheet, Bytes}
+use Rattle.layout.specs.Layout.{Sheet, Bytes}
 use Rattle.layout.specs.Reading.{accepted, refused, readSheet}
 use Rattle.layout.specs.Reading as R
 use Rattle.layout.proofs.Acceptance.{accepted-is-encoded}
@@ -23,31 +20,24 @@ use Rattle.book.specs.Books.{Translates, bookOf}
 use Rattle.book.specs.Looks.{Looks}
 use Rattle.book.proofs.Translated.{translated}
 use Rattle.words.specs.Words.{heldBy}
-use Rattle.monitor.specs.Promise.{said, seen, observation, verdictIn, Says, Freshes, Follows, ObservesLent}
+use Rattle.monitor.specs.Promise.{said, seen, verdictIn, Says, Freshes, Follows, ObservesLent}
 use Rattle.observing.specs.declared.Answer.{Answer}
 use Rattle.observing.specs.declared.Answer.the-variants.{Whole, Open, Broken}
 use Rattle.observing.specs.declared.Answer.the-variants as A
 use Rattle.observing.specs.declared.Observation.{Observation as Seen}
 use Rattle.monitor.proofs.Agreement.{follows-taken, follows-verdict}
-use Rattle.live.specs.Live.{answerWord, refusedWord, Arrays, OpensBy, OpensLent, Narrowed, SameTurn, Notes, NotesLent, verdictIs, Live, none, call, LiveAgrees}
+use Rattle.live.specs.Live.{answerWord, refusedWord, Arrays, OpensBy, OpensLent, NotesLent, verdictIs, Live, none, call, LiveAgrees}
 
 -- ---- opening
 
 module _ (sheet : List ℕ) (bytes : Bytes sheet) (t : Translation) (translates : Translates sheet t) (before : Arrays) where
-  pub opens-accepted : tagOf the-type (t .answer) ≡ 0 → (first : List ℕ) → Freshes (t .book .fragments) first
-      → OpensLent sheet before 0 (record { heads = t .book .heads; fragments = t .book .fragments; names = t .book .names; ranges = t .book .ranges; holders = t .book .holders; monitor = first })
+  pub opens-accepted : tagOf the-type (t .answer) ≡ 0 → (first : List ℕ) → Freshes first → OpensLent sheet before 0 (record { table = t .book .table; monitor = first })
   opens-accepted e first fresh = look (readSheet sheet) refl (sym e ∙ ap (tagOf the-type) (translates .answers))
     where
-      look : (x : R.Outcome) → readSheet sheet ≡ x → 0 ≡ tagOf the-type (answerOf x)
-          → OpensBy x before 0 (record { heads = t .book .heads; fragments = t .book .fragments; names = t .book .names; ranges = t .book .ranges; holders = t .book .holders; monitor = first })
+      look : (x : R.Outcome) → readSheet sheet ≡ x → 0 ≡ tagOf the-type (answerOf x) → OpensBy x before 0 (record { table = t .book .table; monitor = first })
       look (accepted S) f p =
-          let same : bookOf S ≡ t .book = sym (translates .keeps S f) in (
-            refl,
-            (
-              record { heads′ = ap (λ (b : Book). b .heads) same; fragments′ = ap (λ (b : Book). b .fragments) same; names′ = ap (λ (b : Book). b .names) same; ranges′ = ap (λ (b : Book). b .ranges) same; holders′ = ap (λ (b : Book). b .holders) same },
-              fresh S (bookOf S) (accepted-is-encoded sheet bytes f .formed) (subst (Looks S) (sym same) (translated sheet t bytes translates S f)) (ap (λ (b : Book). b .fragments) same),
-            ),
-          )
+          let same : bookOf S ≡ t .book = sym (translates .keeps S f) in
+          (refl, (ap (λ (b : Book). b .table) same, fresh S (bookOf S) (accepted-is-encoded sheet bytes f .formed) (subst (Looks S) (sym same) (translated sheet t bytes translates S f))))
       look (refused k q) f p = absurd (omega arith)
 
   pub opens-refused : {number place : ℕ} → t .answer ≡ Refused number place → (r : ℕ) → r ≡ refusedWord number place → OpensLent sheet before r before
@@ -57,26 +47,6 @@ module _ (sheet : List ℕ) (bytes : Bytes sheet) (t : Translation) (translates 
       look (accepted S) p = absurd (let z : _≡_ {A = ℕ} 0 1 = cc p in omega arith)
       look (refused k q) p = (is ∙ ap₂ refusedWord (cc p) (cc p), refl)
 
--- ---- a name of more than eight bits is refused as one of eight
-
-same-turn : (oracle : Oracle) (k : Kept) (name n time : ℕ) → Narrowed name n → judge oracle k (event n time) ≡ judge oracle k (event name time)
-same-turn oracle k name n time w = look (leb 64 name) refl
-  where
-    both : (v : Verdict) → leb 64 n ≡ true → leb 64 name ≡ true → unlessBroken oracle k (event n time) v ≡ unlessBroken oracle k (event name time) v
-    both allWhole p q = rw (p, q)
-    both (someOpen m) p q = rw (p, q)
-    both (brokenAt j m) p q = refl
-
-    look : (b : Bool) → leb 64 name ≡ b → judge oracle k (event n time) ≡ judge oracle k (event name time)
-    look true q = both (k .verdict) (le-leb 64 n (w .large (leb-true 64 name q))) q
-    look false q = ap (λ (i : ℕ). judge oracle k (event i time)) (w .small (leb-false 64 name q))
-
-pub same-event : (name n time : ℕ) → (name ≡ 255 → ⊥) → Narrowed name n → SameTurn (event n time) (observation name time)
-same-event name n time h w oracle k = same-turn oracle k name n time w ∙ ap (judge oracle k) (sym (rw (ne-eqb name 255 h)))
-
-pub same-clock : (name time : ℕ) → name ≡ 255 → SameTurn (clock time) (observation name time)
-same-clock name time h oracle k = ap (judge oracle k) (sym (rw (eq-eqb name 255 h)))
-
 -- ---- observing
 
 refusal : (a : Answer) → answerWord (said a) % 256 ≡ 3 → (n : ℕ) × (said a ≡ J.refused n)
@@ -85,24 +55,14 @@ refusal (Open m) e = absurd (omega (arith, e))
 refusal (Broken k m) e = absurd (omega (arith, e))
 refusal (A.Refused n) e = (n, refl)
 
-module _ {heads fragments names ranges holders before after : List ℕ} {o : Seen} {a : Answer} {r : ℕ} where
-  pub notes : ObservesLent heads fragments names ranges holders before o a after → r ≡ answerWord (said a) → NotesLent heads fragments names ranges holders before (seen o) r after
+module _ {table before after : List ℕ} {o : Seen} {a : Answer} {r : ℕ} where
+  pub notes : ObservesLent table before o a after → r ≡ answerWord (said a) → NotesLent table before (seen o) r after
   notes observes e b lent =
       let p = observes b lent in
       record {
         answers = λ S k f oracle right. e ∙ ap answerWord (p .answers S k f oracle right);
         follows = p .follows;
         unchanged = λ h. (let (n, is) = refusal a (ap (λ (x : ℕ). x % 256) (sym e) ∙ h) in p .unchanged n is);
-      }
-
-module _ {heads fragments names ranges holders before after : List ℕ} {o o′ : Observation} {r : ℕ} where
-  pub notes-same : SameTurn o o′ → NotesLent heads fragments names ranges holders before o r after → NotesLent heads fragments names ranges holders before o′ r after
-  notes-same same p b lent =
-      let q = p b lent in
-      record {
-        answers = λ S k f oracle right. q .answers S k f oracle right ∙ ap (λ (t : Turn). answerWord (t .answer)) (same oracle k);
-        follows = λ S k f oracle right. subst (λ (t : Turn). Follows S (t .kept) b after) (same oracle k) (q .follows S k f oracle right);
-        unchanged = q .unchanged;
       }
 
 pub tells : (a : Answer) {r : ℕ} (m : List ℕ) → Says a m → r ≡ answerWord (said a) → verdictIs r m
@@ -121,7 +81,7 @@ module _ (S : Sheet) (b : Book) (oracle : Oracle) (right : Right (S .rules) orac
       let a = along rest (judge oracle k o .kept) (c .follows S k f oracle right) in
       record { answered = ap₂ (λ (x : ℕ) (l : List ℕ). x ∷ l) (c .answers S k f oracle right) (a .answered); follows = a .follows }
 
--- for every accepted sheet, the arrays that opening left and every list of observations: the calls one after the other answer what the judge answers
+-- for every accepted sheet, the arrays that opening left and every list of observations, events and clock readings: the calls one after the other answer what the judge answers
 pub live-agreement : (sheet : List ℕ) (before after : Arrays) (r : ℕ) → OpensLent sheet before r after → (S : Sheet) → readSheet sheet ≡ accepted S
     → (os : List Observation) (rs last : List ℕ) → Live (bookOf S) (after .monitor) os rs last → (oracle : Oracle) → Right (S .rules) oracle → LiveAgrees os rs last oracle
 live-agreement sheet before after r opens S is os rs last live oracle right =

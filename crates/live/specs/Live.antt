@@ -3,7 +3,7 @@
 -- Assumes nothing.
 use mathlib.Core.Path.{_≡_}
 use mathlib.Core.List.{List, [], _∷_, map}
-use Prim.Native.Nat.{ℕ, _+_, _*_, _%_, _<_, _≤_}
+use Prim.Native.Nat.{ℕ, _+_, _*_, _%_}
 use lib.ListN.{length}
 use Rattle.pattern.specs.Judge.{Observation, Oracle, Right, Verdict, allWhole, someOpen, brokenAt, Answer, verdict, refused, Kept, nothing, judge, judgeAnswers, judgeKeeps}
 use Rattle.layout.specs.Layout.{Sheet}
@@ -11,7 +11,7 @@ use Rattle.layout.specs.Reading.{Outcome, accepted, refused as turned, readShee
 use Rattle.book.specs.declared.Book.{Book}
 use Rattle.book.specs.Books.{bookOf}
 use Rattle.words.specs.Words.{heldBy}
-use Rattle.monitor.specs.Promise.{verdictIn, Lends, Follows}
+use Rattle.monitor.specs.Promise.{verdictIn, Follows}
 
 -- ---- an answer's number: "Place is k for broken, the offset named below for refused, else 0"
 
@@ -27,36 +27,20 @@ abbrev pub answerWord : Answer → ℕ
 answerWord (verdict v) = verdictWord v
 answerWord (refused number) = refusedWord number 0
 
--- ---- opening: the six arrays that a host lends
+-- ---- opening: the two arrays that a host lends
 
 pub record Arrays : Type 0 where
-  pub heads : List ℕ
-  pub fragments : List ℕ
-  pub names : List ℕ
-  pub ranges : List ℕ
-  pub holders : List ℕ
+  pub table : List ℕ
   pub monitor : List ℕ
 
--- the five that are a book's
-abbrev pub lendsOf : Arrays → Book → Type 0
-lendsOf a b = Lends (a .heads) (a .fragments) (a .names) (a .ranges) (a .holders) b
-
--- an accepted sheet's book is in the arrays, and a monitor that follows the judge who has kept nothing; "A refused sheet gives no monitor", and every array stays as it was
+-- an accepted sheet's book has the table that stands in the first, and a monitor that follows the judge who has kept nothing is in the other; "A refused sheet gives no monitor", and both
+-- stay as they were
 abbrev pub OpensBy : Outcome → Arrays → ℕ → Arrays → Type 0
-OpensBy (accepted S) before r after = (r ≡ 0) × (lendsOf after (bookOf S) × Follows S nothing (bookOf S) (after .monitor))
+OpensBy (accepted S) before r after = (r ≡ 0) × ((bookOf S .table ≡ after .table) × Follows S nothing (bookOf S) (after .monitor))
 OpensBy (turned number place) before r after = (r ≡ refusedWord number place) × (after ≡ before)
 
 abbrev pub OpensLent : List ℕ → Arrays → ℕ → Arrays → Type 0
 OpensLent sheet before r after = OpensBy (readSheet sheet) before r after
-
--- a name of any width in eight bits: itself, or one that is as little a name
-pub record Narrowed (name n : ℕ) : Type 0 where
-  pub small : name < 64 → n ≡ name
-  pub large : 64 ≤ name → 64 ≤ n
-
--- two observations that are one to every judge
-abbrev pub SameTurn : Observation → Observation → Type 0
-SameTurn o o′ = (oracle : Oracle) (k : Kept) → judge oracle k o ≡ judge oracle k o′
 
 -- ---- observing: the judge's next answer, and the monitor follows what the judge then keeps; a refused observation leaves every word as it was. Of a book and a monitor that follow no
 -- judge's list nothing else is promised but that the call returns
@@ -66,14 +50,15 @@ pub record Notes (b : Book) (before : List ℕ) (o : Observation) (r : ℕ) (aft
   pub follows : (S : Sheet) (k : Kept) → Follows S k b before → (oracle : Oracle) → Right (S .rules) oracle → Follows S (judge oracle k o .kept) b after
   pub unchanged : r % 256 ≡ 3 → after ≡ before
 
-abbrev pub NotesLent : List ℕ → List ℕ → List ℕ → List ℕ → List ℕ → List ℕ → Observation → ℕ → List ℕ → Type 0
-NotesLent heads fragments names ranges holders before o r after = (b : Book) → Lends heads fragments names ranges holders b → Notes b before o r after
+-- the call: of whatever book the table that it is lent is
+abbrev pub NotesLent : List ℕ → List ℕ → Observation → ℕ → List ℕ → Type 0
+NotesLent table before o r after = (b : Book) → b .table ≡ table → Notes b before o r after
 
 -- the verdict that the monitor in these words holds, as an answer's number
 abbrev pub verdictIs : ℕ → List ℕ → Type 0
 verdictIs r m = r ≡ verdictWord (verdictIn (heldBy m))
 
--- ---- a session: one call after the other, each on the words that the last one left
+-- ---- a session: one call after the other, each on the words that the last one left: an event by its call, a clock reading by its own
 
 pub data Live (b : Book) : List ℕ → List Observation → List ℕ → List ℕ → Type 0 where
   none : {m : List ℕ} → Live b m [] [] m

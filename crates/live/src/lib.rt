@@ -1,12 +1,12 @@
-// A live session for C hosts (document 01, "Observing"): "The host's session keeps one monitor, lent to the guard and changed in place". The host lends the book's five arrays, which
-// opening writes and nothing else changes, and the monitor's 34 words. An answer is one number: answer, refusal, mask, place, lowest first.
+// A live session for C hosts (document 01, "Observing"): "The host's session keeps one monitor, lent to the guard and changed in place". The host lends the book's table, which opening
+// writes and nothing else changes, and the monitor's 34 words. An answer is one number: answer, refusal, mask, place, lowest first.
 ghost use mathlib.Core.Path.{_≡_};
-ghost use Prim.Native.Nat.{_+_, _*_, _<_};
+ghost use Prim.Native.Nat.{_+_, _*_};
+ghost use Rattle.pattern.specs.Judge.{event, clock};
 ghost use Rattle.words.specs.Words.{heldBy};
-ghost use Rattle.monitor.specs.Promise.{Freshes, said, seen, observation};
-ghost use Rattle.live.specs.Live.{answerWord, refusedWord, OpensLent, Narrowed, SameTurn, NotesLent, verdictIs};
+ghost use Rattle.monitor.specs.Promise.{Freshes, said};
+ghost use Rattle.live.specs.Live.{answerWord, refusedWord, OpensLent, NotesLent, verdictIs};
 use observing::Answer;
-use observing::Observation;
 
 // ---- an answer's number
 
@@ -41,35 +41,23 @@ fn answer_word(a: Answer) -> u64
 
 // ---- the calls
 
-// Reads a sheet into the arrays of a book and makes a fresh monitor for it; 0. Or the sheet's refusal and its place: then no array is changed.
+// Reads a sheet into the table of its book and makes a fresh monitor; 0. Or the sheet's refusal and its place: then neither is changed.
 #[no_mangle]
 pub extern "C" fn guard_lent_open(
     sheet: &[u8],
-    heads: &mut [u64; 16],
-    fragments: &mut [u16; 256],
-    names: &mut [u64; 256],
-    ranges: &mut [u64; 2048],
-    holders: &mut [u16; 64],
+    book: &mut [u64; 1104],
     monitor: &mut [u64; 34],
 ) -> u64
-    ensures { λ r. ⌜ OpensLent (now (sheet .entry)) (record { heads = now (heads .entry); fragments = now (fragments .entry); names = now (names .entry); ranges = now (ranges .entry); holders = now (holders .entry); monitor = now (monitor .entry) }) r (record { heads = now (heads .exit); fragments = now (fragments .exit); names = now (names .exit); ranges = now (ranges .exit); holders = now (holders .exit); monitor = now (monitor .exit) }) ⌝ }
+    ensures { λ r. ⌜ OpensLent (now (sheet .entry)) (record { table = now (book .entry); monitor = now (monitor .entry) }) r (record { table = now (book .exit); monitor = now (monitor .exit) }) ⌝ }
 {
     let t = book::translate(sheet);
     let answer = t.answer;
     match answer {
         sheet::Answer::Accepted => {
             let b = t.book;
-            let parts = b.fragments;
-            let first = monitor::fresh(&parts);
-            let rules = b.heads;
-            let sets = b.names;
-            let bounds = b.ranges;
-            let having = b.holders;
-            *heads = rules;
-            *fragments = parts;
-            *names = sets;
-            *ranges = bounds;
-            *holders = having;
+            let table = b.table;
+            let first = monitor::fresh();
+            *book = table;
             *monitor = first;
             0
         }
@@ -80,52 +68,35 @@ pub extern "C" fn guard_lent_open(
     }
 }
 
-// Makes the monitor a fresh one for the book whose fragments are lent.
+// Makes the monitor a fresh one, for whatever book.
 #[no_mangle]
-pub extern "C" fn guard_lent_start(fragments: &[u16; 256], monitor: &mut [u64; 34])
-    ensures { λ _. ⌜ Freshes (now (fragments .entry)) (now (monitor .exit)) ⌝ }
+pub extern "C" fn guard_lent_start(monitor: &mut [u64; 34])
+    ensures { λ _. ⌜ Freshes (now (monitor .exit)) ⌝ }
 {
-    let first = monitor::fresh(fragments);
+    let first = monitor::fresh();
     *monitor = first;
 }
 
-// A name of any width in eight bits: one of 64 or more, which is refused, stays one.
-fn narrowed(name: u32) -> u8
-    ensures { λ n. ⌜ Narrowed name n ⌝ }
-{
-    if 255 < name {
-        return 255;
-    }
-    name as u8
-}
-
-// "a name 0 to 63 or FF for a clock reading", as in a log; any other number is a name that observing refuses.
-fn observation(name: u32, time: u32) -> Observation
-    ensures { λ o. ⌜ SameTurn (seen o) (observation name time) ⌝ }
-{
-    match name {
-        255 => Observation::Clock(time),
-        _ => Observation::Event(narrowed(name), time),
-    }
-}
-
-// One observation: an event or a clock reading. One call serves both, so that the compiled library has the monitor's code once, without a call to it.
-// The parameters stand in the order in which they are needed: C's convention hands over the first six in registers, and an observation that concerns no rule needs the first four alone, and heads where a deadline runs.
+// One event, under the book whose table is lent. A name of 64 or more, of whatever width, is one that the judge refuses.
 #[no_mangle]
-pub extern "C" fn guard_lent_observe<'a>(
+pub extern "C" fn guard_lent_event(
+    book: &[u64; 1104],
     monitor: &mut [u64; 34],
     name: u32,
     time: u32,
-    holders: &'a [u16; 64],
-    heads: &'a [u64; 16],
-    fragments: &'a [u16; 256],
-    names: &'a [u64; 256],
-    ranges: &'a [u64; 2048],
 ) -> u64
-    ensures { λ r. ⌜ NotesLent (now (heads .entry)) (now (fragments .entry)) (now (names .entry)) (now (ranges .entry)) (now (holders .entry)) (now (monitor .entry)) (observation name time) r (now (monitor .exit)) ⌝ }
+    ensures { λ r. ⌜ NotesLent (now (book .entry)) (now (monitor .entry)) (event name time) r (now (monitor .exit)) ⌝ }
 {
-    let o = observation(name, time);
-    let a = monitor::observe(heads, fragments, names, ranges, holders, monitor, o);
+    let a = monitor::note(book, monitor, name, time);
+    answer_word(a)
+}
+
+// One clock reading.
+#[no_mangle]
+pub extern "C" fn guard_lent_clock(book: &[u64; 1104], monitor: &mut [u64; 34], time: u32) -> u64
+    ensures { λ r. ⌜ NotesLent (now (book .entry)) (now (monitor .entry)) (clock time) r (now (monitor .exit)) ⌝ }
+{
+    let a = monitor::tick(book, monitor, time);
     answer_word(a)
 }
 

@@ -31,10 +31,10 @@ refused-word-requires c κs = search needs
 
 returns : tie.Need-returns
 returns c =
-    let sheet = c .before .before .before .before .before .before .before .before .before .before .before .before .args .sheet .now in
-    let bytes = bytes-of sheet (λ i. c .before .before .before .before .before .before .before .before .before .before .before .shared-slice-known .given i .fits) in
-    let t = c .before .before .before .before .before .before .before .before .before .before .translate in
-    opens-accepted sheet bytes (t .result) (t .ensures) _ (c .before .before .before .before .before .before .before .before .before .match .keys1) _ (c .before .before .before .before .fresh .ensures)
+    let sheet = c .before .before .before .before .before .before .before .args .sheet .now in
+    let bytes = bytes-of sheet (λ i. c .before .before .before .before .before .before .shared-slice-known .given i .fits) in
+    let t = c .before .before .before .before .before .translate in
+    opens-accepted sheet bytes (t .result) (t .ensures) _ (c .before .before .before .before .match .keys1) _ (c .fresh .ensures)
 
 returns-2 : tie.Need-returns-2
 returns-2 c =

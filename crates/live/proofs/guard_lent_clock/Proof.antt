@@ -1,0 +1,18 @@
+-- `live::guard_lent_clock` keeps its promise. Assumes nothing.
+use Rattle.live.proofs.Lending.{notes}
+use borrow.Author.Needs.{needs}
+use Rattle.live.proofs.guard_lent_clock.Statement.{statement}
+use Rattle.live.proofs.guard_lent_clock.Tie as tie
+
+tick-requires : tie.Need-tick-requires
+tick-requires c κs = search needs
+
+answer-word-requires : tie.Need-answer-word-requires
+answer-word-requires c κs = search needs
+
+returns : tie.Need-returns
+returns c =
+    notes (c .before .tick .ensures) (c .answer-word .ensures)
+
+pub guard-lent-clock-spec : {M : Type 1} → statement M
+guard-lent-clock-spec = tie.close (tie.spec tick-requires answer-word-requires returns)

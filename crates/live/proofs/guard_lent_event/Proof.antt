@@ -1,0 +1,18 @@
+-- `live::guard_lent_event` keeps its promise. Assumes nothing.
+use Rattle.live.proofs.Lending.{notes}
+use borrow.Author.Needs.{needs}
+use Rattle.live.proofs.guard_lent_event.Statement.{statement}
+use Rattle.live.proofs.guard_lent_event.Tie as tie
+
+note-requires : tie.Need-note-requires
+note-requires c κs = search needs
+
+answer-word-requires : tie.Need-answer-word-requires
+answer-word-requires c κs = search needs
+
+returns : tie.Need-returns
+returns c =
+    notes (c .before .note .ensures) (c .answer-word .ensures)
+
+pub guard-lent-event-spec : {M : Type 1} → statement M
+guard-lent-event-spec = tie.close (tie.spec note-requires answer-word-requires returns)
