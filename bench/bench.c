@@ -194,7 +194,7 @@ static void count_from_here(char label[128], const contestant *by, unsigned numb
     CALLGRIND_ZERO_STATS;
 }
 
-/* Two lengths of each: their difference has no start-up in it. */
+/* Two lengths of each: their difference has no start-up in it. Opening is counted alone. */
 static void count_means(const contestant *by, unsigned number)
 {
     const configuration *c = &configurations[number];
@@ -204,7 +204,9 @@ static void count_means(const contestant *by, unsigned number)
         count_from_here(label, by, number, "run", log.count);
         run_log(by, c, log);
         CALLGRIND_DUMP_STATS_AT(label);
+        count_from_here(label, by, number, "open", log.count);
         open_session(by, c);
+        CALLGRIND_DUMP_STATS_AT(label);
         count_from_here(label, by, number, "live", log.count);
         live(by, c, log.records, log.count);
         CALLGRIND_DUMP_STATS_AT(label);

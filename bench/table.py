@@ -141,6 +141,23 @@ def print_papers(facts, counts, ops):
     table(['configuration'] + head, [paper_row(f, counts, ops) for f in facts if f.part == 'paper'])
 
 
+def opening(counts, guard, number):
+    """The instructions of opening a session, the sheet's reading included."""
+    return min(counts['open', guard, number].values())
+
+
+def print_opening(facts, counts):
+    """What is done once for a book: each different sheet of the first table."""
+    print('### Opening a session, per sheet\n')
+    rows = []
+    for f in facts:
+        guard, c, rust = (opening(counts, g, f.number) for g in GUARDS)
+        row = ['%d' % n for n in (guard, c, rust)] + ['%.2f' % (guard / c), '%.2f' % (guard / rust)]
+        if f.part != 'clock' and row not in [r[1:] for r in rows]:
+            rows.append([f.title] + row)
+    table(['configuration'] + [g + ' instr.' for g in GUARDS.values()] + ['guard/C', 'guard/Rust'], rows)
+
+
 def print_reach(facts, times, mean, ops):
     """The two goals: guard/C at most 1.2, and no record above a paper's operations."""
     for unit, values in (('nanoseconds', times), ('instructions', mean)):
@@ -164,6 +181,7 @@ def main(folder):
     print_way('run', 'Log run, per record', facts, times[level], mean)
     print_way('live', 'Live session, per record', facts, times[level], mean)
     print_papers(facts, counts, ops)
+    print_opening(facts, counts)
     print_reach(facts, times[level], mean, ops)
     print('- The host\'s loop with a call that does nothing: %.1f ns and %.1f instructions per record.'
           % (times[level]['live', 'none', 0], mean['live', 'none', 0]))
