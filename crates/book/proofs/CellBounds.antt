@@ -4,9 +4,9 @@ use mathlib.Core.Bool.{Bool}
 use Prim.Native.Nat.{ℕ, suc, _<_}
 use native.Mathlib.Omega.{arith}
 use lib.Dec.{eqb, leb}
-use Rattle.tables.specs.Words.{kindIn, countPIn, roundIn}
+use Rattle.tables.specs.Words.{kindIn, countPIn, roundIn, countIn}
 use Rattle.tables.proofs.Bounds.{round-small}
-use Rattle.book.specs.Tables.{roleAfterP, roleWithinP, roleFrom, beforeFrom, sharedCell}
+use Rattle.book.specs.Tables.{roleAfterP, roleWithinP, roleFrom, beforeFrom, looseFrom, sharedCell}
 use Rattle.book.proofs.Steps.{either}
 
 after-small : (kind : ℕ) (last : Bool) → roleAfterP kind last < 8
@@ -24,10 +24,15 @@ pub before-small : (head n : ℕ) → n < roundIn head → beforeFrom head n < 1
 unfolding beforeFrom
 before-small head n h = either (eqb n 0) (omega (arith, round-small head)) (omega (arith, round-small head))
 
+pub loose-small : (word : ℕ) → looseFrom word < 2
+unfolding looseFrom
+loose-small word = either (eqb (countIn word) 1) (omega arith) (omega arith)
+
 pub shared-small : (head word n : ℕ) → n < roundIn head → sharedCell head word n < 262144
 unfolding sharedCell
 shared-small head word n h =
     let r : roleFrom head n < 8 = role-small head n in
     let b : beforeFrom head n < 16 = before-small head n h in
     let f : n < 16 = omega (arith, round-small head) in
+    let l : looseFrom word < 2 = loose-small word in
     omega arith

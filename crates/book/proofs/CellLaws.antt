@@ -2,22 +2,22 @@
 -- Assumes nothing.
 use mathlib.Core.Path.{_≡_, refl, ap₂, _∙_}
 use mathlib.Core.Bool.{Bool, cond}
-use Prim.Native.Nat.{ℕ, suc, _%_, _<_}
+use Prim.Native.Nat.{ℕ, suc, _<_}
 use native.Mathlib.Omega.{arith}
-use lib.Dec.{leb}
+use lib.Dec.{leb, eqb}
 use lib.ListN.{length}
 use Rattle.pattern.specs.Meaning.{Join, all, any, Fragment, Kind, once, repeated, timed, Rule, WellFormedRange, WellFormedFragment, WellFormed}
 use Rattle.pattern.specs.Model.{roundOf, fragmentAt, noFragment}
 use Rattle.layout.specs.Layout.{headerOf, joinNumber, kindNumber}
 use Rattle.layout.specs.Pages.{headerWord, fragmentWord, rangeWord, noRange, rangeAt}
 use Rattle.layout.proofs.PageLaws.{round-formed, round-few, each-at}
-use Rattle.tables.specs.Words.{joinIn, lowIn, highIn}
-use Rattle.tables.specs.Cells.{fragmentIn, indexIn, roleIn, beforeIn, anyIn, lessIn, leastIn, mostIn, cellOf, roleAfter, roleInP, roleOf, preceding, Cell}
+use Rattle.tables.specs.Words.{lowIn, highIn}
+use Rattle.tables.specs.Cells.{fragmentIn, indexIn, roleIn, beforeIn, looseIn, lessIn, leastIn, mostIn, cellOf, roleAfter, roleInP, roleOf, preceding, looseOf, Cell}
 use Rattle.tables.proofs.WordLaws.{join-in, count-in, low-in, high-in}
-use Rattle.book.specs.Tables.{roleAfterP, roleWithinP, roleFrom, beforeFrom, lessFrom, sharedCell, cellWith}
+use Rattle.book.specs.Tables.{roleAfterP, roleWithinP, roleFrom, beforeFrom, looseFrom, lessFrom, sharedCell, cellWith}
 use Rattle.book.specs.Looks.{LooksHead}
 use Rattle.book.proofs.HeadLaws.{head-round, looks-head}
-use Rattle.book.proofs.CellBounds.{role-small, before-small}
+use Rattle.book.proofs.CellBounds.{role-small, before-small, loose-small}
 
 -- ---- numbers
 
@@ -27,7 +27,7 @@ record Parts (f i r b a l least most cell : ℕ) : Type 0 where
   index : indexIn cell ≡ i
   role : roleIn cell ≡ r
   before : beforeIn cell ≡ b
-  any : anyIn cell ≡ a
+  any : looseIn cell ≡ a
   less : lessIn cell ≡ l
   u : leastIn cell ≡ least
   v : mostIn cell ≡ most
@@ -46,7 +46,7 @@ parts f i r b a l least most hf hi hr hb ha hl hu hv = record {
 
 -- the two parts of a cell are the cell
 joined : (head word bounds n i : ℕ) → cellWith (sharedCell head word n) bounds i
-    ≡ cellOf n i (roleFrom head n) (beforeFrom head n) (joinIn word % 2) (lessFrom word) (lowIn bounds) (highIn bounds)
+    ≡ cellOf n i (roleFrom head n) (beforeFrom head n) (looseFrom word) (lessFrom word) (lowIn bounds) (highIn bounds)
 unfolding cellWith sharedCell
 joined head word bounds n i = omega arith
 
@@ -67,6 +67,10 @@ join-one all = omega arith
 join-one any = omega arith
 
 -- ---- the cell of a rule's range
+
+loose-is : (f : Fragment) → WellFormedFragment f → looseFrom (fragmentWord f) ≡ looseOf f
+unfolding looseFrom looseOf
+loose-is f w = ap₂ (λ (n k : ℕ). cond (eqb n 1) 1 k) (count-in f w) (omega (arith, join-in f, join-one (f .join)))
 
 module _ (rule : Rule) (formed : WellFormed rule) where
   abbrev head : ℕ
@@ -89,15 +93,15 @@ module _ (rule : Rule) (formed : WellFormed rule) where
         let f : Fragment = fragmentAt rule n in
         let wf : WellFormedFragment (fragmentAt rule n) = each-at WellFormedFragment noFragment (roundOf rule) n (round-formed rule formed) inside in
         let wr : WellFormedRange (rangeAt rule n i) = each-at WellFormedRange noRange (fragmentAt rule n .ranges) i (wf .ranges) within in
-        let p = parts n i (roleFrom head n) (beforeFrom head n) (joinIn (fragmentWord f) % 2) (lessFrom (fragmentWord f)) (lowIn (rangeWord (rangeAt rule n i))) (highIn (rangeWord (rangeAt rule n i)))
+        let p = parts n i (roleFrom head n) (beforeFrom head n) (looseFrom (fragmentWord f)) (lessFrom (fragmentWord f)) (lowIn (rangeWord (rangeAt rule n i))) (highIn (rangeWord (rangeAt rule n i)))
         (omega (arith, inside, round-few rule formed)) (omega (arith, within, wf .count)) (role-small head n) (before-small head n (omega (arith, inside, head-round rule formed)))
-        (omega arith) (omega arith) (omega arith) (omega arith) in
+        (loose-small (fragmentWord f)) (omega arith) (omega arith) (omega arith) in
         rw joined (record {
           fragment = p .fragment;
           index = p .index;
           role = p .role ∙ role-is n;
           before = p .before ∙ before-is n;
-          join = p .any ∙ omega (arith, join-in f, join-one (f .join));
+          loose = p .any ∙ loose-is f wf;
           less = omega (arith, p .less, count-in f wf, wf .count);
           u = p .u ∙ low-in (rangeAt rule n i) wr;
           v = p .v ∙ high-in (rangeAt rule n i) wr;

@@ -78,9 +78,13 @@ beforeFrom head n = cond (eqb n 0) (roundIn head - 1) (n - 1)
 abbrev pub lessFrom : ℕ → ℕ
 lessFrom word = (countIn word + 7) % 8
 
+-- no other range of the fragment need come: it has one, or is joined any
+unfoldable pub looseFrom : ℕ → ℕ
+looseFrom word = cond (eqb (countIn word) 1) 1 (joinIn word % 2)
+
 -- what the cells of its ranges share
 unfoldable pub sharedCell : ℕ → ℕ → ℕ → ℕ
-sharedCell head word n = cellOf n 0 (roleFrom head n) (beforeFrom head n) (joinIn word % 2) (lessFrom word) 0 0
+sharedCell head word n = cellOf n 0 (roleFrom head n) (beforeFrom head n) (looseFrom word) (lessFrom word) 0 0
 
 -- with range i's own
 unfoldable pub cellWith : ℕ → ℕ → ℕ → ℕ

@@ -4,7 +4,7 @@ ghost use mathlib.Core.Bool.{cond};
 ghost use Prim.Native.Nat.{ℕ, _<_, _≤_};
 ghost use Rattle.names.specs.Names.{member, insert};
 ghost use Rattle.tables.specs.Words.{cap, roundIn};
-ghost use Rattle.book.specs.Tables.{stored, inTurn, fragmentSet, nameTable, ruleSet, ruleTable, maskOf, roleAfterP, roleWithinP, roleFrom, beforeFrom, sharedCell, cellWith, putCell, putFragment, putRule, tableOf};
+ghost use Rattle.book.specs.Tables.{stored, inTurn, fragmentSet, nameTable, ruleSet, ruleTable, maskOf, roleAfterP, roleWithinP, roleFrom, beforeFrom, looseFrom, sharedCell, cellWith, putCell, putFragment, putRule, tableOf};
 ghost use Rattle.book.specs.Books.{Translates, bookFrom};
 
 // ---- the names of each fragment
@@ -171,6 +171,16 @@ fn preceding(head: u64, f: usize) -> usize
     f - 1
 }
 
+// Whether no other range of the fragment need come once one has: it has one, or is joined any. So an event on a lone range asks nothing of the other states.
+fn looseness(word: u16) -> u64
+    ensures { λ r. ⌜ (r ≡ looseFrom word) × (r < 2) ⌝ }
+{
+    if tables::ranges_in(word) == 1 {
+        return 1;
+    }
+    (tables::join(word) % 2) as u64
+}
+
 // What the cells of fragment f's ranges share. One less than a count of 1 to 8 is that of 7 more, modulo 8, and so nothing is asked of the count.
 fn shared(head: u64, word: u16, f: usize) -> u64
     requires { ⌜ f < roundIn head ⌝ }
@@ -178,9 +188,9 @@ fn shared(head: u64, word: u16, f: usize) -> u64
 {
     let role = role_of(head, f);
     let previous = preceding(head, f) as u64;
-    let any = (tables::join(word) % 2) as u64;
+    let loose = looseness(word);
     let less = ((tables::ranges_in(word) + 7) % 8) as u64;
-    (f as u64) + 128 * role + 1024 * previous + 16384 * any + 32768 * less
+    (f as u64) + 128 * role + 1024 * previous + 16384 * loose + 32768 * less
 }
 
 // With range i's own: its number, u and v.

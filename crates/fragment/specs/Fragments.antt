@@ -6,7 +6,7 @@ use mathlib.Core.List.{List, [], _∷_}
 use Prim.Native.Nat.{ℕ, zero, suc, _+_, _-_, _*_, _/_, _%_, _^_}
 use lib.Dec.{leb, ltb, eqb}
 use lib.ListN.{replicate}
-use Rattle.tables.specs.Cells.{indexIn, anyIn, lessIn, leastIn, mostIn}
+use Rattle.tables.specs.Cells.{indexIn, looseIn, lessIn, leastIn, mostIn}
 
 -- ---- eight states in one word
 
@@ -40,7 +40,7 @@ unfoldable pub noneWaits : ℕ → List ℕ → Bool
 noneWaits cell states = eqb ((wordOf states + unitOf cell) % 2 ^ 64) (cutBy 0x0404040404040404 cell)
 
 unfoldable pub completeOf : ℕ → List ℕ → ℕ → Bool
-completeOf cell states count = leb (leastIn cell) count && (eqb (anyIn cell) 1 || noneWaits cell states)
+completeOf cell states count = leb (leastIn cell) count && (eqb (looseIn cell) 1 || noneWaits cell states)
 
 unfoldable pub growsOf : ℕ → List ℕ → ℕ → Bool
 growsOf cell states count = ltb count (mostIn cell) || not (noneWaits cell states)

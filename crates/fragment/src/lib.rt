@@ -74,14 +74,14 @@ fn none_waits(cell: u64, x: [u8; 8]) -> bool
     std::num::wrapping_add_u64(packed(x), unit(cell)) == cut(0x0404040404040404, cell)
 }
 
-// *next* is no error to any range, where the cell's counts: it has enough, and none waits that may not be left out.
+// *next* is no error to any range, where the cell's counts: it has enough, and no other one need come, or none waits.
 pub fn complete(cell: u64, x: [u8; 8], count: u16) -> bool
     ensures { λ r. ⌜ r ≡ completeOf cell x count ⌝ }
 {
     if count < tables::least_in(cell) {
         return false;
     }
-    if tables::any_in(cell) == 1 {
+    if tables::loose_in(cell) == 1 {
         return true;
     }
     none_waits(cell, x)

@@ -20,7 +20,7 @@ use Rattle.pattern.proofs.Fragment.{Checked}
 use Rattle.recogniser.specs.Numbers.{stateOf}
 use Rattle.layout.specs.Layout.{joinNumber}
 use Rattle.layout.specs.Pages.{noRange, rangeAt}
-use Rattle.tables.specs.Cells.{indexIn, anyIn, lessIn, leastIn, mostIn, Cell}
+use Rattle.tables.specs.Cells.{indexIn, looseIn, lessIn, leastIn, mostIn, looseOf, Cell}
 use Rattle.fragment.specs.Fragments.{noneWaits, completeOf, growsOf}
 use Rattle.fragment.proofs.States.{none-waits→, none-waits←}
 use Rattle.step.specs.declared.RuleState.{RuleState}
@@ -170,35 +170,51 @@ module _ {rule : Rule} {st : RuleState} {S : M.RuleState} {j : ℕ} (sound : Sou
     pub room-is : ltb (st .count) (mostIn cell) ≡ hasRoom r₀ (S .count)
     room-is = ap₂ ltb (w .count) (c .v)
 
-    any-is : eqb (anyIn cell) 1 ≡ mayBeLeftOut (f .join)
-    any-is = ap (λ (n : ℕ). eqb n 1) (c .join) ∙ look (f .join)
+    -- no other range need come: each may be left out, or there is none
+    loose→ : T (eqb (looseIn cell) 1) → T (mayBeLeftOut (f .join)) ⊎ (length (f .ranges) ≡ 1)
+    unfolding looseOf
+    loose→ t = look (eqb (length (f .ranges)) 1) refl (f .join) (subst (λ (n : ℕ). T (eqb n 1)) (c .loose) t)
       where
-        look : (y : Join) → eqb (joinNumber y) 1 ≡ mayBeLeftOut y
-        look all = refl
-        look any = refl
+        look : (a : Bool) → eqb (length (f .ranges)) 1 ≡ a → (y : Join) → T (eqb (cond a 1 (joinNumber y)) 1) → T (mayBeLeftOut y) ⊎ (length (f .ranges) ≡ 1)
+        look true q y u = inr (eqb-true (length (f .ranges)) 1 q)
+        look false q all u = absurd u
+        look false q any u = inl tt
+
+    loose← : T (mayBeLeftOut (f .join)) → T (eqb (looseIn cell) 1)
+    unfolding looseOf
+    loose← t = subst (λ (n : ℕ). T (eqb n 1)) (sym (c .loose)) (look (eqb (length (f .ranges)) 1) (f .join) t)
+      where
+        look : (a : Bool) (y : Join) → T (mayBeLeftOut y) → T (eqb (cond a 1 (joinNumber y)) 1)
+        look true y u = tt
+        look false all u = absurd u
+        look false any u = tt
 
     closed→ : T (completeOf cell (st .states) (st .count)) → T (complete (joinOf rule S) (S .count) (slotsOf rule S))
     unfolding completeOf
     closed→ t = all← (λ (x : Slot). isIdle (move (f .join) (x .range) (S .count) (x .state) next)) (slotsOf rule S) (λ x i. go x (sort x i))
       where
         E : T (hasEnough r₀ (S .count))
-        E = subst T enough-is (both-l (leb (leastIn cell) (st .count)) (eqb (anyIn cell) 1 || noneWaits cell (st .states)) t)
+        E = subst T enough-is (both-l (leb (leastIn cell) (st .count)) (eqb (looseIn cell) 1 || noneWaits cell (st .states)) t)
 
-        A : T (eqb (anyIn cell) 1) ⊎ T (noneWaits cell (st .states))
-        A = either (eqb (anyIn cell) 1) (noneWaits cell (st .states)) (both-r (leb (leastIn cell) (st .count)) (eqb (anyIn cell) 1 || noneWaits cell (st .states)) t)
+        A : T (eqb (looseIn cell) 1) ⊎ T (noneWaits cell (st .states))
+        A = either (eqb (looseIn cell) 1) (noneWaits cell (st .states)) (both-r (leb (leastIn cell) (st .count)) (eqb (looseIn cell) 1 || noneWaits cell (st .states)) t)
 
         go : (x : Slot) → Sort x → T (isIdle (move (f .join) (x .range) (S .count) (x .state) next))
         go x (counts e) = subst (λ (y : Slot). T (isIdle (move (f .join) (y .range) (S .count) (y .state) next))) (sym e) (rw (is-true (hasEnough r₀ (S .count)) E) tt)
         go x (waits k h n q e) = out A
           where
-            out : T (eqb (anyIn cell) 1) ⊎ T (noneWaits cell (st .states)) → T (isIdle (move (f .join) (x .range) (S .count) (x .state) next))
-            out (inl a) = rw (e, is-true (mayBeLeftOut (f .join)) (subst T any-is a)) tt
+            out : T (eqb (looseIn cell) 1) ⊎ T (noneWaits cell (st .states)) → T (isIdle (move (f .join) (x .range) (S .count) (x .state) next))
+            out (inl a) = loosely (loose→ a)
+              where
+                loosely : T (mayBeLeftOut (f .join)) ⊎ (length (f .ranges) ≡ 1) → T (isIdle (move (f .join) (x .range) (S .count) (x .state) next))
+                loosely (inl z) = rw (e, is-true (mayBeLeftOut (f .join)) z) tt
+                loosely (inr z) = absurd (n (let i = w .held in omega (arith, z, h, i)))
             out (inr a) = absurd (omega (arith, q, none→ (is-true (noneWaits cell (st .states)) a) k h n))
         go x (ended e) = rw e tt
 
     closed← : T (complete (joinOf rule S) (S .count) (slotsOf rule S)) → T (completeOf cell (st .states) (st .count))
     unfolding completeOf
-    closed← t = both (leb (leastIn cell) (st .count)) (eqb (anyIn cell) 1 || noneWaits cell (st .states)) (subst T (sym enough-is) E) (look (test (mayBeLeftOut (f .join))))
+    closed← t = both (leb (leastIn cell) (st .count)) (eqb (looseIn cell) 1 || noneWaits cell (st .states)) (subst T (sym enough-is) E) (look (test (mayBeLeftOut (f .join))))
       where
         each : (x : Slot) → In x (slotsOf rule S) → T (isIdle (move (f .join) (x .range) (S .count) (x .state) next))
         each = all→ (λ (x : Slot). isIdle (move (f .join) (x .range) (S .count) (x .state) next)) (slotsOf rule S) t
@@ -210,9 +226,9 @@ module _ {rule : Rule} {st : RuleState} {S : M.RuleState} {j : ℕ} (sound : Sou
             idles true u = tt
             idles false u = u
 
-        look : T (mayBeLeftOut (f .join)) ⊎ T (not (mayBeLeftOut (f .join))) → T (eqb (anyIn cell) 1 || noneWaits cell (st .states))
-        look (inl a) = either-l (eqb (anyIn cell) 1) (noneWaits cell (st .states)) (subst T (sym any-is) a)
-        look (inr a) = either-r (eqb (anyIn cell) 1) (noneWaits cell (st .states)) (subst T (sym (none← (λ k h n. done-at k h n (w .calm k h n)))) tt)
+        look : T (mayBeLeftOut (f .join)) ⊎ T (not (mayBeLeftOut (f .join))) → T (eqb (looseIn cell) 1 || noneWaits cell (st .states))
+        look (inl a) = either-l (eqb (looseIn cell) 1) (noneWaits cell (st .states)) (loose← a)
+        look (inr a) = either-r (eqb (looseIn cell) 1) (noneWaits cell (st .states)) (subst T (sym (none← (λ k h n. done-at k h n (w .calm k h n)))) tt)
           where
             done-at : (k : ℕ) → k < length (f .ranges) → (k ≡ j → ⊥) → (getD (st .states) k 0 ≡ 2) ⊎ (getD (st .states) k 0 ≡ 4) → getD (st .states) k 0 ≡ 4
             done-at k h n (inr e) = e

@@ -7,7 +7,7 @@ use Prim.Native.Nat.{ℕ, _+_, _%_}
 use lib.Dec.{eqb}
 use lib.ListN.{getD, set}
 use Rattle.recogniser.specs.Numbers.{nextState}
-use Rattle.tables.specs.Cells.{fragmentIn, indexIn, roleIn, beforeIn, anyIn, leastIn, mostIn, limitAt, cellAt, limitIn}
+use Rattle.tables.specs.Cells.{fragmentIn, indexIn, roleIn, beforeIn, leastIn, mostIn, limitAt, cellAt, limitIn}
 use Rattle.fragment.specs.Fragments.{zeros, begunOf, completeOf, growsOf}
 use Rattle.deadline.specs.Deadlines.{lateOf, endOf}
 use Rattle.step.specs.declared.RuleState.{RuleState}
@@ -40,9 +40,9 @@ beginOf cell name end now =
     (record { state = record { fragment = fragmentIn cell; current = name; states = zeros; count = 1; end = end }; standing = 0 })
     (stoodOf cell name (begunOf cell) 1 end now)
 
--- the table of moves for a cell's range: own (0) and sibling (1)
+-- the table of moves for a cell's range: own (0) and sibling (1), which do not ask for the join
 abbrev pub movedBy : ℕ → ℕ → ℕ → ℕ → ℕ
-movedBy cell class state count = nextState state class (anyIn cell) count (leastIn cell) (mostIn cell)
+movedBy cell class state count = nextState state class 0 count (leastIn cell) (mostIn cell)
 
 -- an event of the range that counts (3)
 unfoldable pub longerOf : ℕ → RuleState → ℕ → ℕ → Stepped

@@ -101,14 +101,14 @@ fn begins(cell: u64, name: u8, end: u32, time: u32) -> Stepped
     stood(cell, name, states, 1, end, time)
 }
 
-// A move of the cell's range, by the table.
+// A move of the cell's range, by the table. *own* (0) and *sibling* (1) do not ask for the join.
 fn moved(cell: u64, class: u8, state: u8, count: u16) -> u8
     ensures { λ r. ⌜ r ≡ movedBy cell class state count ⌝ }
 {
     recogniser::next_state(
         state,
         class,
-        tables::any_in(cell),
+        0,
         count,
         tables::least_in(cell),
         tables::most_in(cell),

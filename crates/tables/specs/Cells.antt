@@ -8,7 +8,7 @@ use lib.Dec.{eqb, ltb}
 use lib.ListN.{length, getD}
 use Rattle.names.specs.Names.{member}
 use Rattle.pattern.specs.Lists.{isIn}
-use Rattle.pattern.specs.Meaning.{Kind, once, repeated, timed, Rule, namesOf}
+use Rattle.pattern.specs.Meaning.{Fragment, Kind, once, repeated, timed, Rule, namesOf}
 use Rattle.pattern.specs.Model.{roundOf, fragmentAt, isLast, afterP}
 use Rattle.layout.specs.Layout.{joinNumber, timeOf}
 use Rattle.layout.specs.Pages.{ruleAt, rangeAt}
@@ -30,9 +30,9 @@ roleIn cell = cell / 128 % 8
 abbrev pub beforeIn : ℕ → ℕ
 beforeIn cell = cell / 1024 % 16
 
--- its join, and its count of ranges less one
-abbrev pub anyIn : ℕ → ℕ
-anyIn cell = cell / 16384 % 2
+-- whether no other range of the fragment need come (1), and the fragment's count of ranges less one
+abbrev pub looseIn : ℕ → ℕ
+looseIn cell = cell / 16384 % 2
 
 abbrev pub lessIn : ℕ → ℕ
 lessIn cell = cell / 32768 % 8
@@ -45,8 +45,8 @@ abbrev pub mostIn : ℕ → ℕ
 mostIn cell = cell / 281474976710656 % 65536
 
 -- the number that holds these eight
-abbrev pub cellOf : (fragment index role before any less u v : ℕ) → ℕ
-cellOf fragment index role before any less u v = fragment + 16 * index + 128 * role + 1024 * before + 16384 * any + 32768 * less + 4294967296 * u + 281474976710656 * v
+abbrev pub cellOf : (fragment index role before loose less u v : ℕ) → ℕ
+cellOf fragment index role before loose less u v = fragment + 16 * index + 128 * role + 1024 * before + 16384 * loose + 32768 * less + 4294967296 * u + 281474976710656 * v
 
 -- ---- roles
 
@@ -74,6 +74,10 @@ roleOf r n = cond (afterP r n) (roleAfter (r .kind) (isLast r n)) (roleInP (r .k
 unfoldable pub preceding : Rule → ℕ → ℕ
 preceding r n = cond (eqb n 0) (length (roundOf r) - 1) (n - 1)
 
+-- a fragment in which no other range need come once one has: joined any, or of one range
+unfoldable pub looseOf : Fragment → ℕ
+looseOf f = cond (eqb (length (f .ranges)) 1) 1 (joinNumber (f .join))
+
 -- ---- the cells of a rule
 
 -- the cell of range i of fragment n
@@ -82,7 +86,7 @@ pub record Cell (r : Rule) (n i cell : ℕ) : Type 0 where
   pub index : indexIn cell ≡ i
   pub role : roleIn cell ≡ roleOf r n
   pub before : beforeIn cell ≡ preceding r n
-  pub join : anyIn cell ≡ joinNumber (fragmentAt r n .join)
+  pub loose : looseIn cell ≡ looseOf (fragmentAt r n)
   pub less : suc (lessIn cell) ≡ length (fragmentAt r n .ranges)
   pub u : leastIn cell ≡ rangeAt r n i .u
   pub v : mostIn cell ≡ rangeAt r n i .v

@@ -4,7 +4,7 @@ ghost use mathlib.Core.Path.{_≡_};
 ghost use mathlib.Core.Bool.{cond};
 ghost use lib.Dec.{eqb};
 ghost use Prim.Native.Nat.{_<_, _≤_};
-ghost use Rattle.tables.specs.Cells.{fragmentIn, indexIn, roleIn, beforeIn, anyIn, lessIn, leastIn, mostIn, cellOf, maskIn, limitIn};
+ghost use Rattle.tables.specs.Cells.{fragmentIn, indexIn, roleIn, beforeIn, looseIn, lessIn, leastIn, mostIn, cellOf, maskIn, limitIn};
 ghost use Rattle.tables.specs.Words.{kindIn, countPIn, countQIn, triggerIn, timeIn, roundIn, joinIn, countIn, bitIn, lowIn, highIn};
 
 // ---- a rule's head
@@ -126,8 +126,8 @@ pub fn before_in(cell: u64) -> u8
     (cell / 1024 % 16) as u8
 }
 
-pub fn any_in(cell: u64) -> u8
-    ensures { λ r. ⌜ r ≡ anyIn cell ⌝ }
+pub fn loose_in(cell: u64) -> u8
+    ensures { λ r. ⌜ r ≡ looseIn cell ⌝ }
 {
     (cell / 16384 % 2) as u8
 }

@@ -12,19 +12,19 @@ returns : tie.Need-returns
 unfolding completeOf
 returns c = rw (← c .before .least-in .ensures, lt-leb _ _ (c .if1 .taken))
 
-any-in-requires : tie.Need-any-in-requires
-any-in-requires c κs = search needs
+loose-in-requires : tie.Need-loose-in-requires
+loose-in-requires c κs = search needs
 
 returns-2 : tie.Need-returns-2
 unfolding completeOf
-returns-2 c = rw (← c .before .before .before .least-in .ensures, le-leb _ _ (c .before .before .if1 .left), ← c .before .any-in .ensures, eq-eqb _ _ (c .if2 .taken))
+returns-2 c = rw (← c .before .before .before .least-in .ensures, le-leb _ _ (c .before .before .if1 .left), ← c .before .loose-in .ensures, eq-eqb _ _ (c .if2 .taken))
 
 none-waits-requires : tie.Need-none-waits-requires
 none-waits-requires c κs = search needs
 
 returns-3 : tie.Need-returns-3
 unfolding completeOf
-returns-3 c = rw (← c .before .before .before .before .least-in .ensures, le-leb _ _ (c .before .before .before .if1 .left), ← c .before .before .any-in .ensures, ne-eqb _ _ (c .before .if2 .left), ← c .none-waits .ensures)
+returns-3 c = rw (← c .before .before .before .before .least-in .ensures, le-leb _ _ (c .before .before .before .if1 .left), ← c .before .before .loose-in .ensures, ne-eqb _ _ (c .before .if2 .left), ← c .none-waits .ensures)
 
 pub complete-spec : {M : Type 1} → statement M
-complete-spec = tie.close (tie.spec least-in-requires returns any-in-requires returns-2 none-waits-requires returns-3)
+complete-spec = tie.close (tie.spec least-in-requires returns loose-in-requires returns-2 none-waits-requires returns-3)
