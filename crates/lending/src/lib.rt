@@ -8,20 +8,12 @@ use monitor::Monitor;
 use observing::Answer;
 use observing::Observation;
 
-// One observation of the monitor that is handed over, under the book whose arrays are lent: the answer, and the monitor that the call left in the local that was lent to it.
-pub fn observed<'a>(
-    m: Monitor,
-    heads: &'a [u64; 16],
-    fragments: &'a [u16; 256],
-    names: &'a [u64; 256],
-    ranges: &'a [u64; 2048],
-    holders: &'a [u16; 64],
-    o: Observation,
-) -> Answered
-    ensures { λ r. ⌜ ObservesInPlace (now (heads .entry)) (now (fragments .entry)) (now (names .entry)) (now (ranges .entry)) (now (holders .entry)) m o (r .monitor) (r .answer) ⌝ }
+// One observation of the monitor that is handed over, under the book whose table is lent: the answer, and the monitor that the call left in the local that was lent to it.
+pub fn observed(m: Monitor, table: &[u64; 1104], o: Observation) -> Answered
+    ensures { λ r. ⌜ ObservesInPlace (now (table .entry)) m o (r .monitor) (r .answer) ⌝ }
 {
     let mut s = m;
-    let answer = session::observe(&mut s, heads, fragments, names, ranges, holders, o);
+    let answer = session::observe(&mut s, table, o);
     Answered {
         monitor: s,
         answer: answer,

@@ -1,7 +1,7 @@
 -- A live session: opening, observing, and demand 3 for the calls one after the other, `live-agreement`.
 -- Assumes nothing.
 use mathlib.Core.Path.{_≡_, refl, sym, _∙_, ap, ap₂, subst}
-use mathlib.Core.List.{List, [], _∷_, map}
+use mathlib.Core.List.{List, _∷_, map}
 use Prim.Native.Nat.{ℕ, _%_}
 use native.Mathlib.Omega.{arith}
 use denote.Enum.Declared.{tagOf}
@@ -19,8 +19,7 @@ use Rattle.book.specs.declared.Translation.{Translation}
 use Rattle.book.specs.Books.{Translates, bookOf}
 use Rattle.book.specs.Looks.{Looks}
 use Rattle.book.proofs.Translated.{translated}
-use Rattle.words.specs.Words.{heldBy}
-use Rattle.monitor.specs.Promise.{said, seen, verdictIn, Says, Freshes, Follows, ObservesLent}
+use Rattle.monitor.specs.Promise.{said, seen, Says, Freshes, Follows, ObservesLent}
 use Rattle.observing.specs.declared.Answer.{Answer}
 use Rattle.observing.specs.declared.Answer.the-variants.{Whole, Open, Broken}
 use Rattle.observing.specs.declared.Answer.the-variants as A

@@ -70,20 +70,11 @@ fn observation(s: &[u8], at: usize) -> Observation
     }
 }
 
-fn turned<'a>(
-    lent: bool,
-    heads: &'a [u64; 16],
-    fragments: &'a [u16; 256],
-    names: &'a [u64; 256],
-    ranges: &'a [u64; 2048],
-    holders: &'a [u16; 64],
-    m: Monitor,
-    o: Observation,
-) -> Answered {
+fn turned(lent: bool, table: &[u64; 1104], m: Monitor, o: Observation) -> Answered {
     if lent {
-        return lending::observed(m, heads, fragments, names, ranges, holders, o);
+        return lending::observed(m, table, o);
     }
-    monitor::step(heads, fragments, names, ranges, holders, m, o)
+    monitor::step(table, m, o)
 }
 
 fn verdict_of(lent: bool, m: Monitor) -> Answer {
@@ -101,17 +92,8 @@ fn taken_by(lent: bool, m: Monitor) -> u32 {
 }
 
 // One record, observed by value or by lending the monitor to the session, and told.
-fn step<'a>(
-    lent: bool,
-    heads: &'a [u64; 16],
-    fragments: &'a [u16; 256],
-    names: &'a [u64; 256],
-    ranges: &'a [u64; 2048],
-    holders: &'a [u16; 64],
-    m: Monitor,
-    o: Observation,
-) -> Monitor {
-    let r = turned(lent, heads, fragments, names, ranges, holders, m, o);
+fn step(lent: bool, table: &[u64; 1104], m: Monitor, o: Observation) -> Monitor {
+    let r = turned(lent, table, m, o);
     let answer = r.answer;
     tell(answer);
     let next = r.monitor;
@@ -119,32 +101,14 @@ fn step<'a>(
 }
 
 // The records of a part of the input.
-fn observe_all<'a>(
-    lent: bool,
-    heads: &'a [u64; 16],
-    fragments: &'a [u16; 256],
-    names: &'a [u64; 256],
-    ranges: &'a [u64; 2048],
-    holders: &'a [u16; 64],
-    start: Monitor,
-    log: &[u8],
-) -> Monitor {
+fn observe_all(lent: bool, table: &[u64; 1104], start: Monitor, log: &[u8]) -> Monitor {
     let mut m = start;
     let mut at = 0usize;
     while at < log.len() {
         if log.len() - at < 5 {
             return m;
         }
-        m = step(
-            lent,
-            heads,
-            fragments,
-            names,
-            ranges,
-            holders,
-            m,
-            observation(log, at),
-        );
+        m = step(lent, table, m, observation(log, at));
         at = at + 5;
     }
     m
@@ -153,14 +117,10 @@ fn observe_all<'a>(
 fn replay(lent: bool, taken: u32, sheet: &[u8], log: &[u8]) {
     let t = book::translate(sheet);
     let b = t.book;
-    let fragments = b.fragments;
-    let mut m = monitor::start(&fragments);
+    let table = b.table;
+    let mut m = monitor::start();
     m.taken = taken;
-    let heads = b.heads;
-    let names = b.names;
-    let ranges = b.ranges;
-    let holders = b.holders;
-    let last = observe_all(lent, &heads, &fragments, &names, &ranges, &holders, m, log);
+    let last = observe_all(lent, &table, m, log);
     io::write_all(STDOUT, b" |");
     tell(verdict_of(lent, last));
     io::write_all(STDOUT, b" ");

@@ -7,7 +7,7 @@ use Rattle.pattern.specs.Judge as J
 use Rattle.layout.specs.Layout.{Sheet, Bytes}
 use Rattle.layout.specs.Reading.{accepted, readSheet}
 use Rattle.book.specs.declared.Book.{Book}
-use Rattle.monitor.specs.Promise.{Lends, Run, done, more, CodeAgreement}
+use Rattle.monitor.specs.Promise.{Run, done, more, CodeAgreement}
 use Rattle.monitor.specs.Value.{numbersOf, Turns, Starts}
 use Rattle.monitor.specs.declared.Monitor.{Monitor}
 use Rattle.observing.specs.declared.Observation.{Observation}
@@ -16,18 +16,14 @@ use Rattle.monitor.proofs.Agreement.{value-agreement}
 use Rattle.session.specs.Session.{Opens, Session, SessionAgreement}
 use Rattle.session.specs.declared.Opened.{Opened}
 
--- a book lends its own arrays
-lends-own : (b : Book) → Lends (b .heads) (b .fragments) (b .names) (b .ranges) (b .holders) b
-lends-own b = record { heads′ = refl; fragments′ = refl; names′ = refl; ranges′ = refl; holders′ = refl }
-
 -- calls in place are a run of calls by value
 pub session-run : (b : Book) {m last : Monitor} {os : List Observation} {as′ : List Answer} → Session b m os as′ last → Run (Turns b) m os as′ last
 session-run b done = done
-session-run b (more c rest) = more (c b (lends-own b)) (session-run b rest)
+session-run b (more c rest) = more (c b refl) (session-run b rest)
 
--- for every accepted sheet's bytes, every monitor that `start` has put in place for the book that `open_sheet` made of them, and every list of observations: the calls in place answer what the judge answers
+-- for every accepted sheet's bytes, the book that `open_sheet` made of them, every monitor that `start` has put in place and every list of observations: the calls in place answer what the judge answers
 pub session-agreement : (bytes : List ℕ) → Bytes bytes → (r : Opened) → Opens bytes r → (S : Sheet) → readSheet bytes ≡ accepted S
-    → (m : Monitor) → Starts (r .book .fragments) m → (os : List Observation) (as′ : List Answer) (last : Monitor) → Session (r .book) m os as′ last → SessionAgreement S os as′ last
+    → (m : Monitor) → Starts m → (os : List Observation) (as′ : List Answer) (last : Monitor) → Session (r .book) m os as′ last → SessionAgreement S os as′ last
 session-agreement bytes are r opens S is m starts os as′ last s = record {
   agrees = along;
   counts = λ oracle right n e. e ∙ along .agrees oracle right .taken;

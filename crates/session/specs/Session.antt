@@ -18,20 +18,20 @@ use Rattle.session.specs.declared.Opened.{Opened}
 
 -- ---- the calls
 
--- opening from these bytes: the reader's answer and an accepted sheet's book, as translating promises; and a fresh monitor for that book
+-- opening from these bytes: the reader's answer and an accepted sheet's book, as translating promises; and a fresh monitor
 pub record Opens (bytes : List ℕ) (r : Opened) : Type 0 where
   pub translates : Translates bytes (record { answer = r .answer; book = r .book })
-  pub starts : Starts (r .book .fragments) (r .monitor)
+  pub starts : Starts (r .monitor)
 
 -- one observation in place: the monitor before the call, the observation, the monitor that the call leaves and its answer are such as the monitor part promises by value
-abbrev pub ObservesInPlace : List ℕ → List ℕ → List ℕ → List ℕ → List ℕ → Monitor → Observation → Monitor → Answer → Type 0
-ObservesInPlace heads fragments names ranges holders before o after answer = TurnsLent heads fragments names ranges holders before o answer after
+abbrev pub ObservesInPlace : List ℕ → Monitor → Observation → Monitor → Answer → Type 0
+ObservesInPlace table before o after answer = TurnsLent table before o answer after
 
 -- ---- a session
 
--- one call after the other, all lent the same book's arrays, each on the monitor that the last one left in place; `ObservesInPlace` is all that a call promises
+-- one call after the other, all lent the same book's table, each on the monitor that the last one left in place; `ObservesInPlace` is all that a call promises
 abbrev pub Session : Book → Monitor → List Observation → List Answer → Monitor → Type 0
-Session b = Run (λ m o a next. ObservesInPlace (b .heads) (b .fragments) (b .names) (b .ranges) (b .holders) m o next a)
+Session b = Run (λ m o a next. ObservesInPlace (b .table) m o next a)
 
 -- demand 3 for a session: its answers, its count and its verdict are the judge's; and so is what the calls `taken` and `verdict` then answer
 pub record SessionAgreement (S : Sheet) (os : List Observation) (as′ : List Answer) (last : Monitor) : Type 0 where

@@ -14,14 +14,14 @@ pub struct Opened {
     pub monitor: Monitor,
 }
 
-// Reads a sheet from any bytes, translates it and makes a fresh monitor for its book. The book and the monitor that come with a refusal are the program's choice.
+// Reads a sheet from any bytes, translates it and makes a fresh monitor for its book. The book that comes with a refusal is the program's choice.
 pub fn open_sheet(bytes: &[u8]) -> Opened
     ensures { λ r. ⌜ Opens (now (bytes .entry)) r ⌝ }
 {
     let t = book::translate(bytes);
     let answer = t.answer;
     let book = t.book;
-    let monitor = monitor::start(&book.fragments);
+    let monitor = monitor::start();
     Opened {
         answer: answer,
         book: book,
@@ -29,28 +29,20 @@ pub fn open_sheet(bytes: &[u8]) -> Opened
     }
 }
 
-// Puts a fresh monitor for the book whose fragments are lent in the place of whatever stands there.
-pub fn start(m: &mut Monitor, fragments: &[u16; 256])
-    ensures { λ _. ⌜ Starts (now (fragments .entry)) (now (m .exit)) ⌝ }
+// Puts a fresh monitor, for whatever book, in the place of what stands there.
+pub fn start(m: &mut Monitor)
+    ensures { λ _. ⌜ Starts (now (m .exit)) ⌝ }
 {
-    *m = monitor::start(fragments);
+    *m = monitor::start();
 }
 
-// One observation of the session's monitor under the book whose arrays are lent: the judge's answer, and the monitor is left as one that follows what the judge then keeps. A refused observation leaves it equal.
-// For arrays or a monitor that these calls did not make, or a monitor opened for another book, the answer is the program's choice; the call returns, and touches nothing but the monitor.
-pub fn observe<'a>(
-    m: &mut Monitor,
-    heads: &'a [u64; 16],
-    fragments: &'a [u16; 256],
-    names: &'a [u64; 256],
-    ranges: &'a [u64; 2048],
-    holders: &'a [u16; 64],
-    o: Observation,
-) -> Answer
-    ensures { λ r. ⌜ ObservesInPlace (now (heads .entry)) (now (fragments .entry)) (now (names .entry)) (now (ranges .entry)) (now (holders .entry)) (now (m .entry)) o (now (m .exit)) r ⌝ }
+// One observation of the session's monitor under the book whose table is lent: the judge's answer, and the monitor is left as one that follows what the judge then keeps. A refused observation leaves it equal.
+// For a table or a monitor that these calls did not make, or a monitor that has observed under another book, the answer is the program's choice; the call returns, and touches nothing but the monitor.
+pub fn observe(m: &mut Monitor, table: &[u64; 1104], o: Observation) -> Answer
+    ensures { λ r. ⌜ ObservesInPlace (now (table .entry)) (now (m .entry)) o (now (m .exit)) r ⌝ }
 {
     let s = *m;
-    let r = monitor::step(heads, fragments, names, ranges, holders, s, o);
+    let r = monitor::step(table, s, o);
     *m = r.monitor;
     r.answer
 }

@@ -1,4 +1,4 @@
--- `lending::observed` meets its contract: a walk of its MIR. What each `&` owns is had twice. The monitor is put into a memory slot, a lifetime is made, the slot's cell is lent for it, and `session::observe` is called on the reference; the lifetime is ended, the cell comes back at the last value that the callee's `post` says, and the pair of that monitor and the answer is built.
+-- `lending::observed` meets its contract: a walk of its MIR. What the `&` owns is had twice. The monitor is put into a memory slot, a lifetime is made, the slot's cell is lent for it, and `session::observe` is called on the reference; the lifetime is ended, the cell comes back at the last value that the callee's `post` says, and the pair of that monitor and the answer is built.
 -- All that the proof knows of `session::observe` is that it meets its contract. No field of `Monitor` and no case of `Answer` or `Observation` is named: the laws that the check makes of each type say all that is needed.
 -- Assumes nothing.
 use mathlib.Core.Path.{refl, ap}
@@ -25,7 +25,7 @@ use sound.WpLaws.{FmC, fmOf, WpFn-mono}
 use denote.RattleType.{RattleType, owns}
 use denote.Laws.{Is, shows}
 use denote.Memory.{partAt, mem}
-use denote.Builtin.{u16, u64, ArrayOf}
+use denote.Builtin.{u64, ArrayOf}
 use denote.Array.{Array}
 use denote.Ref.{RefT, MutRef, ShrRef, ptr-vals, shr-tells, shr-copy}
 use denote.Lend.{lends-ref, ref-back}
@@ -69,23 +69,17 @@ abbrev Table : Type 0
 Table = RefT (List ℕ)
 
 abbrev Arg : Type 0
-Arg = Monitor × (Table × (Table × (Table × (Table × (Table × (Observation × Unit {0}))))))
+Arg = Monitor × (Table × (Observation × Unit {0}))
 
--- the book's arrays, as rows and as places in the signature
-abbrev Words : ℕ → RattleType
-Words n = Array u64 n
+-- the book's table, as a row and as a place in the signature
+abbrev Words : RattleType
+Words = Array u64 1104
 
-abbrev Halves : ℕ → RattleType
-Halves n = Array u16 n
-
-abbrev WordsS : ℕ → Slot 1
-WordsS n = ArrayOf (plain (λ _. u64)) (λ _. tt) n
-
-abbrev HalvesS : ℕ → Slot 1
-HalvesS n = ArrayOf (plain (λ _. u16)) (λ _. tt) n
+abbrev WordsS : Slot 1
+WordsS = ArrayOf (plain (λ _. u64)) (λ _. tt) 1104
 
 abbrev stayed : Stays (f.ended .signature .params) (f.ended .kept)
-stayed = (stay-none (λ _. T.the-row) yes, (stay-none-ref (0 ∷ []) tt (WordsS 16) yes, (stay-none-ref (0 ∷ []) tt (HalvesS 256) yes, (stay-none-ref (0 ∷ []) tt (WordsS 256) yes, (stay-none-ref (0 ∷ []) tt (WordsS 2048) yes, (stay-none-ref (0 ∷ []) tt (HalvesS 64) yes, (stay-none (λ _. O.the-row) yes, tt)))))))
+stayed = (stay-none (λ _. T.the-row) yes, (stay-none-ref (0 ∷ []) tt WordsS yes, (stay-none (λ _. O.the-row) yes, tt)))
 
 -- the machine values of an answer, of an observation and of the pair
 abbrev val-n : Answer → Val
@@ -108,42 +102,39 @@ pair-is r mon ans = LL.owes S.the-type S′.the-laws r (mon, (ans, tt))
 abbrev Observe : {M : Type 1} (𝓤 : URA M) (H : Heap 𝓤) (A : Atoms 𝓤) (mem : Memory → SProp 𝓤) (run : Routine → Fun 𝓤) → Contract 𝓤
 Observe 𝓤 H A mem run = tripleOf 𝓤 H A observe.signature (observe.spec 𝓤 H A mem run)
 
-module _ {M : Type 1} (𝓤 : URA M) (H : Heap 𝓤) (A : Atoms 𝓤) (W : Given 𝓤 H A) (at-mem : Memory → SProp 𝓤) (run : Routine → Fun 𝓤) (κ : Lft) (q : Share) (h : Monitor) (y₁ y₂ y₃ y₄ y₅ : Table) (s : Observation) (h-is : Is T.the-row h (vals h)) (s-is : Is O.the-row s (vals-o s)) where
+module _ {M : Type 1} (𝓤 : URA M) (H : Heap 𝓤) (A : Atoms 𝓤) (W : Given 𝓤 H A) (at-mem : Memory → SProp 𝓤) (run : Routine → Fun 𝓤) (κ : Lft) (q : Share) (h : Monitor) (y : Table) (s : Observation) (h-is : Is T.the-row h (vals h)) (s-is : Is O.the-row s (vals-o s)) where
   abbrev x : Arg
-  x = (h, (y₁, (y₂, (y₃, (y₄, (y₅, (s, tt)))))))
+  x = (h, (y, (s, tt)))
 
-  abbrev at : List Val × (List Val × (List Val × (List Val × (List Val × (List Val × (List Val × Unit {0}))))))
-  at = (vals h, (ptr-vals y₁, (ptr-vals y₂, (ptr-vals y₃, (ptr-vals y₄, (ptr-vals y₅, (vals-o s, tt)))))))
+  abbrev at : List Val × (List Val × (List Val × Unit {0}))
+  at = (vals h, (ptr-vals y, (vals-o s, tt)))
 
   abbrev in-all : List Val
-  in-all = val h ∷ vptr (y₁ .ptr .0) (y₁ .ptr .1) ∷ vptr (y₂ .ptr .0) (y₂ .ptr .1) ∷ vptr (y₃ .ptr .0) (y₃ .ptr .1) ∷ vptr (y₄ .ptr .0) (y₄ .ptr .1) ∷ vptr (y₅ .ptr .0) (y₅ .ptr .1) ∷ val-o s ∷ []
+  in-all = val h ∷ vptr (y .ptr .0) (y .ptr .1) ∷ val-o s ∷ []
 
   abbrev Post : Val → SProp 𝓤
   Post = walkOf 𝓤 H A f.ended stayed (f.clauses 𝓤 H A at-mem run) .post (((κ, tt), (q, tt), tt, x, at), tt)
 
   -- the types of what stands beside the monitor, and what they own: it can be had twice
   abbrev Rest : List RattleType
-  Rest = ShrRef (named 0) κ (Words 16) ∷ ShrRef (named 0) κ (Halves 256) ∷ ShrRef (named 0) κ (Words 256) ∷ ShrRef (named 0) κ (Words 2048) ∷ ShrRef (named 0) κ (Halves 64) ∷ O.the-row ∷ []
+  Rest = ShrRef (named 0) κ Words ∷ O.the-row ∷ []
 
   abbrev Lent : Fml
   Lent = owns Rest (x .1) (at .1)
 
   lent-twice : ent 𝓤 (sem 𝓤 H A Lent) (sep 𝓤 (sem 𝓤 H A Lent) (sem 𝓤 H A Lent))
-  lent-twice =
-      twices 𝓤 H A W Rest
-      (shr-copy 𝓤 H A W (named 0) κ (Words 16), (shr-copy 𝓤 H A W (named 0) κ (Halves 256), (shr-copy 𝓤 H A W (named 0) κ (Words 256), (shr-copy 𝓤 H A W (named 0) κ (Words 2048), (shr-copy 𝓤 H A W (named 0) κ (Halves 64), (EL.copy O.the-type O′.the-copy 𝓤 H A W, tt))))))
-      (x .1) (at .1)
+  lent-twice = twices 𝓤 H A W Rest (shr-copy 𝓤 H A W (named 0) κ Words, (EL.copy O.the-type O′.the-copy 𝓤 H A W, tt)) (x .1) (at .1)
 
   -- what the callee promises of the monitor w that it leaves and of its answer
   abbrev Promised : Monitor → Answer → Type 0
-  Promised w r = ObservesInPlace (y₁ .now) (y₂ .now) (y₃ .now) (y₄ .now) (y₅ .now) h s w r
+  Promised w r = ObservesInPlace (y .now) h s w r
 
   -- what `session::observe` is passed: a reference to the slot at l, under the name γ, for the lifetime α
   module _ (l α : ℕ) (γ : GName) where
     abbrev lent-ref : RefT Monitor
     lent-ref = record { ptr = (l, 0); name = γ; now = h }
 
-    abbrev arg : RefT Monitor × (Table × (Table × (Table × (Table × (Table × (Observation × Unit {0}))))))
+    abbrev arg : RefT Monitor × (Table × (Observation × Unit {0}))
     arg = (lent-ref, x .1)
 
     abbrev Ref : Fml
@@ -165,7 +156,7 @@ module _ {M : Type 1} (𝓤 : URA M) (H : Heap 𝓤) (A : Atoms 𝓤) (W : Given
       → ent 𝓤 (⋆ 𝓤 H A ((‵ (flft κ q) ⊛ ‵ ftrue) ∷ ‵ Lent ∷ [])) (Post (val-s (record { monitor = w; answer = r })))
   exits w r e is =
       qed W ((‵ (flft κ q) ⊛ ‵ ftrue) ∷ ‵ Lent ∷ []) ∵
-      suffices ! _ (ends-at 𝓤 H A f.ended stayed (f.clauses 𝓤 H A at-mem run) W (((κ, tt), (q, tt), tt, x, at), tt) (val-s (record { monitor = w; answer = r })) (record { monitor = w; answer = r }) (tt, (tt, (tt, (tt, (tt, (tt, (tt, tt))))))) (tt, (tt, (tt, (tt, (tt, (tt, (tt, tt)))))))) $
+      suffices ! _ (ends-at 𝓤 H A f.ended stayed (f.clauses 𝓤 H A at-mem run) W (((κ, tt), (q, tt), tt, x, at), tt) (val-s (record { monitor = w; answer = r })) (record { monitor = w; answer = r }) (tt, (tt, (tt, tt))) (tt, (tt, (tt, tt)))) $
       says ! e $ frame ! $ owned ! T.the-row (Is T.the-row) (LL.makes T.the-type T′.the-plain 𝓤 H A) h _ h-is $ fjoin ! $ frame ! $
       owned ! S.the-row (Is S.the-row) (LL.makes S.the-type S′.the-plain 𝓤 H A) (record { monitor = w; answer = r }) _ is $ done !
 
@@ -175,53 +166,52 @@ module _ {M : Type 1} (𝓤 : URA M) (H : Heap 𝓤) (A : Atoms 𝓤) (W : Given
         qed W ((‵ (flft κ q) ⊛ ‵ ftrue) ∷ ‵ (owns (T.the-row ∷ Rest) x at) ∷ []) ∵
         -- what stands beside the monitor is had twice
         move ! (1 ∷ []) $ fsplit ! $ drop ! $ use1 W (‵ Lent ⊛ ‵ Lent) lent-twice $ split ! $
-        -- [the arrays and the observation, twice; the arrays' token]
+        -- [the table and the observation, twice; the table's token]
         enter ! C Λ code.function in-all _ $
-        alloc1 ! (λ l₀. alloc1 ! (λ l₁. alloc1 ! (λ l₂. alloc1 ! (λ l₃. alloc1 ! (λ l₄. alloc1 ! (λ l₅. alloc1 ! (λ l₆. alloc1 ! (λ l₇. alloc1 ! (λ l₈. alloc1 ! (λ l₉. alloc1 ! (λ l₁₀. alloc1 ! (λ l₁₁. alloc0 ! $ params1 ! $
-        pass1 ! (init ! 20 refl (LL.lawful T.the-type T′.the-laws 𝓤 H A W .typed h _ h-is .0)) $
-        pass1 ! (init ! 18 refl (tt, tt)) $ pass1 ! (init ! 16 refl (tt, tt)) $ pass1 ! (init ! 14 refl (tt, tt)) $ pass1 ! (init ! 12 refl (tt, tt)) $ pass1 ! (init ! 10 refl (tt, tt)) $
+        alloc1 ! (λ l₀. alloc1 ! (λ l₁. alloc1 ! (λ l₂. alloc1 ! (λ l₃. alloc1 ! (λ l₄. alloc1 ! (λ l₅. alloc1 ! (λ l₆. alloc1 ! (λ l₇. alloc0 ! $ params1 ! $
+        pass1 ! (init ! 12 refl (LL.lawful T.the-type T′.the-laws 𝓤 H A W .typed h _ h-is .0)) $ pass1 ! (init ! 10 refl (tt, tt)) $
         pass1 ! (init ! 8 refl (EL.lawful O.the-type O′.the-laws 𝓤 H A W tt .typed s _ s-is .0)) $ pass0 ! $
         -- the slot is given the monitor, and its address is taken
-        assigns ! (of-opd ! (load ! (from ! (stop !)) (look ! 20 refl))) (from ! (stop !)) (init ! 6 refl (LL.lawful T.the-type T′.the-laws 𝓤 H A W .typed h _ h-is .0)) $
+        assigns ! (of-opd ! (load ! (from ! (stop !)) (look ! 12 refl))) (from ! (stop !)) (init ! 6 refl (LL.lawful T.the-type T′.the-laws 𝓤 H A W .typed h _ h-is .0)) $
         assigns ! (addr ! (from ! (stop !))) (from ! (stop !)) (init ! 2 refl (tt, tt)) $
         -- the slot is lent for a new lifetime
-        move ! (6 ∷ []) $ use1 W (‵ (partAt T.the-row fullShare h l₈ 0)) (slot-in 𝓤 H A W h l₈ h-is) $
+        move ! (6 ∷ []) $ use1 W (‵ (partAt T.the-row fullShare h l₄ 0)) (slot-in 𝓤 H A W h l₄ h-is) $
         lft-new ! tt (λ α. move ! (1 ∷ []) $
-        use1 W (later (some (λ (γ : GName). ‵ (Ref l₈ α γ) ⊛ ‵ (flent (α ∷ []) (Body (mem T.the-row) l₈ 0 γ))))) (lends-ref 𝓤 H A W T.the-row (named 0) (α ∷ []) h l₈ 0) $ await ! tt $ pick ! (λ γ. split ! $
-        -- [the reference; the lender's part; the new token; _11; …; _9; …; _8's end; _7; …; room for _0; …; the arrays and the observation, twice; the arrays' token]
-        move ! (2 ∷ 28 ∷ 0 ∷ 26 ∷ []) $ join ! $ move ! (1 ∷ 2 ∷ []) $ fjoin ! $ move ! (1 ∷ 0 ∷ []) $
+        use1 W (later (some (λ (γ : GName). ‵ (Ref l₄ α γ) ⊛ ‵ (flent (α ∷ []) (Body (mem T.the-row) l₄ 0 γ))))) (lends-ref 𝓤 H A W T.the-row (named 0) (α ∷ []) h l₄ 0) $ await ! tt $ pick ! (λ γ. split ! $
+        -- [the reference; the lender's part; the new token; _7; …; _5; …; _4's end; _3; …; room for _0; …; the table and the observation, twice; the table's token]
+        move ! (2 ∷ 20 ∷ 0 ∷ 18 ∷ []) $ join ! $ move ! (1 ∷ 2 ∷ []) $ fjoin ! $ move ! (1 ∷ 0 ∷ []) $
         -- the call
-        use2 W (raw (Observe 𝓤 H A at-mem run .pre (to-observe l₈ α γ))) (goes l₈ α γ) $
-        calls-at ! fm (Observe 𝓤 H A at-mem run) known (to-observe l₈ α γ) (and-then ! (load ! (from ! (stop !)) (look ! 4 refl)) (and-then ! (load ! (from ! (stop !)) (look ! 19 refl)) (and-then ! (load ! (from ! (stop !)) (look ! 17 refl)) (and-then ! (load ! (from ! (stop !)) (look ! 15 refl)) (and-then ! (load ! (from ! (stop !)) (look ! 13 refl)) (and-then ! (load ! (from ! (stop !)) (look ! 11 refl)) (and-then ! (load ! (from ! (stop !)) (look ! 9 refl)) (no-more !)))))))) (λ v.
-        use1 W (later (some (λ (r : Answer). ((‵ (flft (α ∷ []) fullShare) ⊛ ‵ (flft κ q) ⊛ ‵ ftrue) ⊛ ‵ (N.the-row .own r (v ∷ []))) ⊛ raw (Ensured l₈ α γ r)))) (id⊢ 𝓤 _) $ await ! tt $ pick ! (λ r. split ! $ move ! (1 ∷ []) $
+        use2 W (raw (Observe 𝓤 H A at-mem run .pre (to-observe l₄ α γ))) (goes l₄ α γ) $
+        calls-at ! fm (Observe 𝓤 H A at-mem run) known (to-observe l₄ α γ) (and-then ! (load ! (from ! (stop !)) (look ! 4 refl)) (and-then ! (load ! (from ! (stop !)) (look ! 11 refl)) (and-then ! (load ! (from ! (stop !)) (look ! 9 refl)) (no-more !)))) (λ v.
+        use1 W (later (some (λ (r : Answer). ((‵ (flft (α ∷ []) fullShare) ⊛ ‵ (flft κ q) ⊛ ‵ ftrue) ⊛ ‵ (N.the-row .own r (v ∷ []))) ⊛ raw (Ensured l₄ α γ r)))) (id⊢ 𝓤 _) $ await ! tt $ pick ! (λ r. split ! $ move ! (1 ∷ []) $
         -- what the callee's `post` says: the last value of the reference, and the clause
-        use1 W (some (λ (ws : Ws l₈ α γ). ‵ (lasts observe.ended (α ∷ [], (κ, tt)) (arg l₈ α γ) ws) ⊛ raw (fact 𝓤 (Promised (ws .0) r)))) (id⊢ 𝓤 _) $ pick ! (λ ws. split ! $ move ! (1 ∷ []) $ heard ! (Promised (ws .0) r) (λ e.
+        use1 W (some (λ (ws : Ws l₄ α γ). ‵ (lasts observe.ended (α ∷ [], (κ, tt)) (arg l₄ α γ) ws) ⊛ raw (fact 𝓤 (Promised (ws .0) r)))) (id⊢ 𝓤 _) $ pick ! (λ ws. split ! $ move ! (1 ∷ []) $ heard ! (Promised (ws .0) r) (λ e.
         fsplit ! $ move ! (1 ∷ []) $ drop ! $ move ! (1 ∷ []) $ split ! $ split ! $ move ! (2 ∷ []) $
-        -- [the answer; the new token; the arrays' token; the last value; the lender's part; _11; …; room for _9; …]
+        -- [the answer; the new token; the table's token; the last value; the lender's part; _7; …; room for _5; …]
         peeks ! N.the-row (Is N.the-row) (shows 𝓤 H A N.the-row) r (v ∷ []) (λ r-is.
         land ! (from ! (stop !)) (init ! 9 refl (EL.lawful N.the-type N′.the-laws 𝓤 H A W tt .typed r _ r-is .0)) $
-        rewrite ! 0 (λ (us : List Val). ‵ (N.the-row .own r us)) (EL.tells N.the-type N′.the-laws r _ r-is) refl $ rewrite ! 9 (λ (u : Val). ‵ (fat fullShare N′.mir l₉ 0 u)) (ap only (EL.tells N.the-type N′.the-laws r _ r-is)) refl $
+        rewrite ! 0 (λ (us : List Val). ‵ (N.the-row .own r us)) (EL.tells N.the-type N′.the-laws r _ r-is) refl $ rewrite ! 9 (λ (u : Val). ‵ (fat fullShare N′.mir l₅ 0 u)) (ap only (EL.tells N.the-type N′.the-laws r _ r-is)) refl $
         peeks ! N.the-row (Is N.the-row) (shows 𝓤 H A N.the-row) r (val-n r ∷ []) (λ a-is. drop ! $
         -- the lifetime is ended, and the slot is taken back at its last value
-        lft-end ! tt $ move ! (0 ∷ 3 ∷ 2 ∷ []) $ use3 W (later (‵ (partAt T.the-row fullShare (ws .0) l₈ 0))) (ref-back 𝓤 H A W T.the-row (α ∷ []) γ (ws .0) l₈ 0) $ await ! tt $
-        use1 W (‵ (fat fullShare T′.mir l₈ 0 (val (ws .0))) ⊛ ‵ (T.the-row .own (ws .0) (vals (ws .0)))) (slot-out 𝓤 H A W (ws .0) l₈) $ split ! $ move ! (1 ∷ []) $
+        lft-end ! tt $ move ! (0 ∷ 3 ∷ 2 ∷ []) $ use3 W (later (‵ (partAt T.the-row fullShare (ws .0) l₄ 0))) (ref-back 𝓤 H A W T.the-row (α ∷ []) γ (ws .0) l₄ 0) $ await ! tt $
+        use1 W (‵ (fat fullShare T′.mir l₄ 0 (val (ws .0))) ⊛ ‵ (T.the-row .own (ws .0) (vals (ws .0)))) (slot-out 𝓤 H A W (ws .0) l₄) $ split ! $ move ! (1 ∷ []) $
         peeks ! T.the-row (Is T.the-row) (shows 𝓤 H A T.the-row) (ws .0) (vals (ws .0)) (λ w-is. drop ! $
-        -- [_8; the arrays' token; _11; …; _9; …; _8's end; _7; …; room for _0; …; the arrays and the observation]
+        -- [_4; the table's token; _7; …; _5; …; _4's end; _3; …; room for _0; …; the table and the observation]
         assigns ! (of-opd ! (load ! (from ! (stop !)) (look ! 0 refl))) (from ! (stop !)) (init ! 2 refl (LL.lawful T.the-type T′.the-laws 𝓤 H A W .typed (ws .0) _ w-is .0)) $
-        assigns ! (agg ! (and-then ! (load ! (from ! (stop !)) (look ! 2 refl)) (and-then ! (load ! (from ! (stop !)) (look ! 6 refl)) (no-more !)))) (from ! (stop !)) (init ! 23 refl (LL.lawful S.the-type S′.the-laws 𝓤 H A W .typed (record { monitor = ws .0; answer = r }) _ (pair-is (record { monitor = ws .0; answer = r }) w-is a-is) .0)) $
-        returns ! (look ! 23 refl) $ forget ! 0 refl $ forget ! 2 refl $ forget ! 4 refl $ forget ! 6 refl $ forget ! 9 refl $ forget ! 11 refl $ forget ! 13 refl $ forget ! 15 refl $ forget ! 17 refl $ forget ! 19 refl $ forget ! 21 refl $ forget ! 23 refl $
-        move ! (23 ∷ 24 ∷ []) $ free1 ! $ move ! (21 ∷ 22 ∷ []) $ free1 ! $ move ! (19 ∷ 20 ∷ []) $ free1 ! $ move ! (17 ∷ 18 ∷ []) $ free1 ! $ move ! (15 ∷ 16 ∷ []) $ free1 ! $ move ! (13 ∷ 14 ∷ []) $ free1 ! $ move ! (11 ∷ 12 ∷ []) $ free1 ! $ move ! (9 ∷ 10 ∷ []) $ free1 ! $
+        assigns ! (agg ! (and-then ! (load ! (from ! (stop !)) (look ! 2 refl)) (and-then ! (load ! (from ! (stop !)) (look ! 6 refl)) (no-more !)))) (from ! (stop !)) (init ! 15 refl (LL.lawful S.the-type S′.the-laws 𝓤 H A W .typed (record { monitor = ws .0; answer = r }) _ (pair-is (record { monitor = ws .0; answer = r }) w-is a-is) .0)) $
+        returns ! (look ! 15 refl) $ forget ! 0 refl $ forget ! 2 refl $ forget ! 4 refl $ forget ! 6 refl $ forget ! 9 refl $ forget ! 11 refl $ forget ! 13 refl $ forget ! 15 refl $
+        move ! (15 ∷ 16 ∷ []) $ free1 ! $ move ! (13 ∷ 14 ∷ []) $ free1 ! $ move ! (11 ∷ 12 ∷ []) $ free1 ! $ move ! (9 ∷ 10 ∷ []) $ free1 ! $
         move ! (0 ∷ 8 ∷ []) $ free1 ! $ move ! (5 ∷ 6 ∷ []) $ free1 ! $ move ! (3 ∷ 4 ∷ []) $ free1 ! $ move ! (1 ∷ 2 ∷ []) $ free1 ! $ free0 ! $
-        by ! (exits (ws .0) r e (pair-is (record { monitor = ws .0; answer = r }) w-is a-is)))))))))))))))))))))))
+        by ! (exits (ws .0) r e (pair-is (record { monitor = ws .0; answer = r }) w-is a-is)))))))))))))))))))
 
 module _ {M : Type 1} (𝓤 : URA M) (H : Heap 𝓤) (A : Atoms 𝓤) (W : Given 𝓤 H A) (at-mem : Memory → SProp 𝓤) (run : Routine → Fun 𝓤) where
   observed-walks : (C : Calls 𝓤 H) (Λ : Loops 𝓤 H) → FmC 𝓤 H (W .laws) C → Triple 𝓤 (C #session·observe) (Observe 𝓤 H A at-mem run) → Walks 𝓤 H A f.ended stayed (WpFn 𝓤 H C Λ code.function) (f.clauses 𝓤 H A at-mem run)
-  observed-walks C Λ fm known = walked 𝓤 H A f.ended stayed (f.clauses 𝓤 H A at-mem run) (WpFn 𝓤 H C Λ code.function) (λ κs. (vals, (ptr-vals, (ptr-vals, (ptr-vals, (ptr-vals, (ptr-vals, (vals-o, tt))))))))
-      (λ κs. (LL.tells T.the-type T′.the-laws, (shr-tells (named 0) (κs .0) (Words 16), (shr-tells (named 0) (κs .0) (Halves 256), (shr-tells (named 0) (κs .0) (Words 256), (shr-tells (named 0) (κs .0) (Words 2048), (shr-tells (named 0) (κs .0) (Halves 64), (EL.tells O.the-type O′.the-laws, tt))))))))
-      (λ κs qs bounds a _ are. via 𝓤 _ (fst∗ 𝓤 _ (emp 𝓤)) (walk 𝓤 H A W at-mem run (κs .0) (qs .0) (a .0) (a .1 .0) (a .1 .1 .0) (a .1 .1 .1 .0) (a .1 .1 .1 .1 .0) (a .1 .1 .1 .1 .1 .0) (a .1 .1 .1 .1 .1 .1 .0) (are .0) (are .1 .1 .1 .1 .1 .1 .0) C Λ fm known))
+  observed-walks C Λ fm known = walked 𝓤 H A f.ended stayed (f.clauses 𝓤 H A at-mem run) (WpFn 𝓤 H C Λ code.function) (λ κs. (vals, (ptr-vals, (vals-o, tt))))
+      (λ κs. (LL.tells T.the-type T′.the-laws, (shr-tells (named 0) (κs .0) Words, (EL.tells O.the-type O′.the-laws, tt))))
+      (λ κs qs bounds a _ are. via 𝓤 _ (fst∗ 𝓤 _ (emp 𝓤)) (walk 𝓤 H A W at-mem run (κs .0) (qs .0) (a .0) (a .1 .0) (a .1 .1 .0) (are .0) (are .1 .1 .0) C Λ fm known))
 
   goes-all : AllGo 𝓤 H A W 1 (f.signature .params) (f.ended .kept) stayed
-  goes-all = (goes-none 𝓤 H A W 1 (λ _. T.the-row) yes (λ κs x f. refl), (goes-none-ref 𝓤 H A W 1 (0 ∷ []) tt (WordsS 16) yes, (goes-none-ref 𝓤 H A W 1 (0 ∷ []) tt (HalvesS 256) yes, (goes-none-ref 𝓤 H A W 1 (0 ∷ []) tt (WordsS 256) yes, (goes-none-ref 𝓤 H A W 1 (0 ∷ []) tt (WordsS 2048) yes, (goes-none-ref 𝓤 H A W 1 (0 ∷ []) tt (HalvesS 64) yes, (goes-none 𝓤 H A W 1 (λ _. O.the-row) yes (λ κs x f. refl), tt)))))))
+  goes-all = (goes-none 𝓤 H A W 1 (λ _. T.the-row) yes (λ κs x f. refl), (goes-none-ref 𝓤 H A W 1 (0 ∷ []) tt WordsS yes, (goes-none 𝓤 H A W 1 (λ _. O.the-row) yes (λ κs x f. refl), tt)))
 
 observed-meets : {M : Type 1} (𝓤 : URA M) (H : Heap 𝓤) (A : Atoms 𝓤) → Given 𝓤 H A → (at-mem : Memory → SProp 𝓤) (run : Routine → Fun 𝓤) (𝓣 : Tables 𝓤 H) → Triple 𝓤 (𝓣 .C #session·observe) (Observe 𝓤 H A at-mem run)
     → Meets 𝓤 H A f.signature (WpFn 𝓤 H (𝓣 .C) (𝓣 .Λ) code.function) (f.spec 𝓤 H A at-mem run)

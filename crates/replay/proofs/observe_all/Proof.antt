@@ -7,10 +7,10 @@ use Rattle.replay.proofs.observe_all.Statement.{statement}
 use Rattle.replay.proofs.observe_all.Tie as tie
 
 abbrev Inv-loop : tie.InvT-loop
-Inv-loop lent heads fragments names ranges holders log m₀ at₀ m at = at ≤ length log
+Inv-loop lent table log m₀ at₀ m at = at ≤ length log
 
 abbrev μ-loop : tie.MeasureT-loop
-μ-loop lent heads fragments names ranges holders log m₀ at₀ m at = length log - at
+μ-loop lent table log m₀ at₀ m at = length log - at
 
 loop-holds : tie.Need-loop-holds Inv-loop μ-loop
 loop-holds c = omega arith

@@ -1,4 +1,4 @@
--- `session::observe` meets its contract: a walk of its MIR. What each `&` owns is had twice. The borrow is opened, the whole monitor is copied into a local, `monitor::step` is called on the copy, and the monitor that it returned is stored whole through the reference; the borrow is closed at that monitor.
+-- `session::observe` meets its contract: a walk of its MIR. What the `&` owns is had twice. The borrow is opened, the whole monitor is copied into a local, `monitor::step` is called on the copy, and the monitor that it returned is stored whole through the reference; the borrow is closed at that monitor.
 -- All that the proof knows of `monitor::step` is that it meets its contract. No field of `Monitor` and no case of `Answer` or `Observation` is named: the laws that the check makes of each type say all that is needed.
 -- Assumes nothing.
 use mathlib.Core.Path.{refl, ap}
@@ -24,7 +24,7 @@ use sound.WpLaws.{FmC, fmOf, WpFn-mono}
 use denote.RattleType.{RattleType, owns}
 use denote.Laws.{Is, shows}
 use denote.Memory.{mem}
-use denote.Builtin.{u16, u64, ArrayOf}
+use denote.Builtin.{u64, ArrayOf}
 use denote.Array.{Array}
 use denote.Ref.{RefT, MutRef, ShrRef, ptr-vals, mut-tells, shr-tells, shr-copy}
 use denote.Signature.{Slot, plain}
@@ -67,23 +67,17 @@ abbrev Table : Type 0
 Table = RefT (List ℕ)
 
 abbrev Arg : Type 0
-Arg = RefT Monitor × (Table × (Table × (Table × (Table × (Table × (Observation × Unit {0}))))))
+Arg = RefT Monitor × (Table × (Observation × Unit {0}))
 
--- the book's arrays, as rows and as places in the signature
-abbrev Words : ℕ → RattleType
-Words n = Array u64 n
+-- the book's table, as a row and as a place in the signature
+abbrev Words : RattleType
+Words = Array u64 1104
 
-abbrev Halves : ℕ → RattleType
-Halves n = Array u16 n
-
-abbrev WordsS : ℕ → Slot 2
-WordsS n = ArrayOf (plain (λ _. u64)) (λ _. tt) n
-
-abbrev HalvesS : ℕ → Slot 2
-HalvesS n = ArrayOf (plain (λ _. u16)) (λ _. tt) n
+abbrev WordsS : Slot 2
+WordsS = ArrayOf (plain (λ _. u64)) (λ _. tt) 1104
 
 abbrev stayed : Stays (f.ended .signature .params) (f.ended .kept)
-stayed = (stay-ref (0 ∷ []) tt (plain (λ _. T.the-row)), (stay-none-ref (1 ∷ []) tt (WordsS 16) yes, (stay-none-ref (1 ∷ []) tt (HalvesS 256) yes, (stay-none-ref (1 ∷ []) tt (WordsS 256) yes, (stay-none-ref (1 ∷ []) tt (WordsS 2048) yes, (stay-none-ref (1 ∷ []) tt (HalvesS 64) yes, (stay-none (λ _. O.the-row) yes, tt)))))))
+stayed = (stay-ref (0 ∷ []) tt (plain (λ _. T.the-row)), (stay-none-ref (1 ∷ []) tt WordsS yes, (stay-none (λ _. O.the-row) yes, tt)))
 
 -- the machine values of a monitor, of an answer and of an observation
 abbrev vals : Monitor → List Val
@@ -109,47 +103,44 @@ ans-is r {vs} is = LL.owed S.the-type S′.the-laws r vs is .1 .0
 abbrev Step : {M : Type 1} (𝓤 : URA M) (H : Heap 𝓤) (A : Atoms 𝓤) (mem : Memory → SProp 𝓤) (run : Routine → Fun 𝓤) → Contract 𝓤
 Step 𝓤 H A mem run = tripleOf 𝓤 H A step.signature (step.spec 𝓤 H A mem run)
 
-module _ {M : Type 1} (𝓤 : URA M) (H : Heap 𝓤) (A : Atoms 𝓤) (W : Given 𝓤 H A) (at-mem : Memory → SProp 𝓤) (run : Routine → Fun 𝓤) (κ κ₁ : Lft) (q q₁ : Share) (b o : ℕ) (γ : GName) (h : Monitor) (y₁ y₂ y₃ y₄ y₅ : Table) (s : Observation) (s-is : Is O.the-row s (vals-o s)) where
+module _ {M : Type 1} (𝓤 : URA M) (H : Heap 𝓤) (A : Atoms 𝓤) (W : Given 𝓤 H A) (at-mem : Memory → SProp 𝓤) (run : Routine → Fun 𝓤) (κ κ₁ : Lft) (q q₁ : Share) (b o : ℕ) (γ : GName) (h : Monitor) (y : Table) (s : Observation) (s-is : Is O.the-row s (vals-o s)) where
   abbrev x : Arg
-  x = (record { ptr = (b, o); name = γ; now = h }, (y₁, (y₂, (y₃, (y₄, (y₅, (s, tt)))))))
+  x = (record { ptr = (b, o); name = γ; now = h }, (y, (s, tt)))
 
-  abbrev at : List Val × (List Val × (List Val × (List Val × (List Val × (List Val × (List Val × Unit {0}))))))
-  at = (vptr b o ∷ [], (ptr-vals y₁, (ptr-vals y₂, (ptr-vals y₃, (ptr-vals y₄, (ptr-vals y₅, (vals-o s, tt)))))))
+  abbrev at : List Val × (List Val × (List Val × Unit {0}))
+  at = (vptr b o ∷ [], (ptr-vals y, (vals-o s, tt)))
 
   abbrev in-all : List Val
-  in-all = vptr b o ∷ vptr (y₁ .ptr .0) (y₁ .ptr .1) ∷ vptr (y₂ .ptr .0) (y₂ .ptr .1) ∷ vptr (y₃ .ptr .0) (y₃ .ptr .1) ∷ vptr (y₄ .ptr .0) (y₄ .ptr .1) ∷ vptr (y₅ .ptr .0) (y₅ .ptr .1) ∷ val-o s ∷ []
+  in-all = vptr b o ∷ vptr (y .ptr .0) (y .ptr .1) ∷ val-o s ∷ []
 
   abbrev Post : Val → SProp 𝓤
   Post = walkOf 𝓤 H A f.ended stayed (f.clauses 𝓤 H A at-mem run) .post (((κ, (κ₁, tt)), (q, (q₁, tt)), tt, x, at), tt)
 
   -- the types of what stands beside the monitor, and what they own: it can be had twice
   abbrev Rest : List RattleType
-  Rest = ShrRef (named 1) κ₁ (Words 16) ∷ ShrRef (named 1) κ₁ (Halves 256) ∷ ShrRef (named 1) κ₁ (Words 256) ∷ ShrRef (named 1) κ₁ (Words 2048) ∷ ShrRef (named 1) κ₁ (Halves 64) ∷ O.the-row ∷ []
+  Rest = ShrRef (named 1) κ₁ Words ∷ O.the-row ∷ []
 
   abbrev Lent : Fml
   Lent = owns Rest (x .1) (at .1)
 
   lent-twice : ent 𝓤 (sem 𝓤 H A Lent) (sep 𝓤 (sem 𝓤 H A Lent) (sem 𝓤 H A Lent))
-  lent-twice =
-      twices 𝓤 H A W Rest
-      (shr-copy 𝓤 H A W (named 1) κ₁ (Words 16), (shr-copy 𝓤 H A W (named 1) κ₁ (Halves 256), (shr-copy 𝓤 H A W (named 1) κ₁ (Words 256), (shr-copy 𝓤 H A W (named 1) κ₁ (Words 2048), (shr-copy 𝓤 H A W (named 1) κ₁ (Halves 64), (EL.copy O.the-type O′.the-copy 𝓤 H A W, tt))))))
-      (x .1) (at .1)
+  lent-twice = twices 𝓤 H A W Rest (shr-copy 𝓤 H A W (named 1) κ₁ Words, (EL.copy O.the-type O′.the-copy 𝓤 H A W, tt)) (x .1) (at .1)
 
   -- what `monitor::step` is passed, and what it promises
-  abbrev arg : Table × (Table × (Table × (Table × (Table × (Monitor × (Observation × Unit {0}))))))
-  arg = (y₁, (y₂, (y₃, (y₄, (y₅, (h, (s, tt)))))))
+  abbrev arg : Table × (Monitor × (Observation × Unit {0}))
+  arg = (y, (h, (s, tt)))
 
   abbrev to-step : Step 𝓤 H A at-mem run .Ghost
-  to-step = (((κ₁, tt), (q₁, tt), tt, arg, (ptr-vals y₁, (ptr-vals y₂, (ptr-vals y₃, (ptr-vals y₄, (ptr-vals y₅, (vals h, (vals-o s, tt)))))))), tt)
+  to-step = (((κ₁, tt), (q₁, tt), tt, arg, (ptr-vals y, (vals h, (vals-o s, tt)))), tt)
 
   abbrev Promised : Answered → Type 0
-  Promised r = TurnsLent (y₁ .now) (y₂ .now) (y₃ .now) (y₄ .now) (y₅ .now) h s (r .answer) (r .monitor)
+  Promised r = TurnsLent (y .now) h s (r .answer) (r .monitor)
 
   goes : Is T.the-row h (vals h) → ent 𝓤 (⋆ 𝓤 H A ((‵ (flft κ₁ q₁) ⊛ ‵ ftrue) ∷ ‵ Lent ∷ [])) (Step 𝓤 H A at-mem run .pre to-step)
   goes is =
-      qed W ((‵ (flft κ₁ q₁) ⊛ ‵ ftrue) ∷ ‵ Lent ∷ []) ∵ move ! (1 ∷ []) $ fsplit ! $ move ! (1 ∷ []) $ fsplit ! $ move ! (1 ∷ []) $ fsplit ! $ move ! (1 ∷ []) $ fsplit ! $ move ! (1 ∷ []) $ fsplit ! $ move ! (1 ∷ []) $ drop ! $ nothing ! $
+      qed W ((‵ (flft κ₁ q₁) ⊛ ‵ ftrue) ∷ ‵ Lent ∷ []) ∵ move ! (1 ∷ []) $ fsplit ! $ move ! (1 ∷ []) $ drop ! $ nothing ! $
       owned ! O.the-row (Is O.the-row) (EL.makes O.the-type O′.the-plain 𝓤 H A) s _ s-is $ fjoin ! $ owned ! T.the-row (Is T.the-row) (LL.makes T.the-type T′.the-plain 𝓤 H A) h _ is $ fjoin ! $
-      move ! (1 ∷ 0 ∷ []) $ fjoin ! $ move ! (1 ∷ 0 ∷ []) $ fjoin ! $ move ! (1 ∷ 0 ∷ []) $ fjoin ! $ move ! (1 ∷ 0 ∷ []) $ fjoin ! $ move ! (1 ∷ 0 ∷ []) $ fjoin ! $ move ! (1 ∷ 0 ∷ []) $ join ! $ frame ! $ done !
+      move ! (1 ∷ 0 ∷ []) $ fjoin ! $ move ! (1 ∷ 0 ∷ []) $ join ! $ frame ! $ done !
 
   -- of the callee's `ensured`, the clause alone: it has no `&mut`
   said : (r : Answered) → ent 𝓤 (ensured 𝓤 H A step.ended (step.clauses 𝓤 H A at-mem run) (κ₁, tt) arg tt r) (fact 𝓤 (Promised r))
@@ -159,7 +150,7 @@ module _ {M : Type 1} (𝓤 : URA M) (H : Heap 𝓤) (A : Atoms 𝓤) (W : Given
       → ent 𝓤 (⋆ 𝓤 H A (‵ (fobs γ (T.the-row .coded .code (r .monitor))) ∷ ‵ (fbor κ (Body (mem T.the-row) b o γ)) ∷ ‵ (flft κ q) ∷ (‵ (flft κ₁ q₁) ⊛ ‵ ftrue) ∷ ‵ Lent ∷ [])) (Post (val-n (r .answer)))
   exits r e is =
       qed W (‵ (fobs γ (T.the-row .coded .code (r .monitor))) ∷ ‵ (fbor κ (Body (mem T.the-row) b o γ)) ∷ ‵ (flft κ q) ∷ (‵ (flft κ₁ q₁) ⊛ ‵ ftrue) ∷ ‵ Lent ∷ []) ∵
-      suffices ! _ (ends-at 𝓤 H A f.ended stayed (f.clauses 𝓤 H A at-mem run) W (((κ, (κ₁, tt)), (q, (q₁, tt)), tt, x, at), tt) (val-n (r .answer)) (r .answer) (r .monitor, (tt, (tt, (tt, (tt, (tt, (tt, tt))))))) (tt, (tt, (tt, (tt, (tt, (tt, (tt, tt)))))))) $
+      suffices ! _ (ends-at 𝓤 H A f.ended stayed (f.clauses 𝓤 H A at-mem run) W (((κ, (κ₁, tt)), (q, (q₁, tt)), tt, x, at), tt) (val-n (r .answer)) (r .answer) (r .monitor, (tt, (tt, tt))) (tt, (tt, (tt, tt)))) $
       says ! e $ move ! (2 ∷ 3 ∷ []) $ join ! $ frame ! $ feqI ! (List Val) (vptr b o ∷ []) (vptr b o ∷ []) refl $ fjoin3 ! $ fjoin ! $ frame ! $
       owned ! N.the-row (Is N.the-row) (EL.makes N.the-type N′.the-plain 𝓤 H A) (r .answer) _ is $ done !
 
@@ -169,43 +160,42 @@ module _ {M : Type 1} (𝓤 : URA M) (H : Heap 𝓤) (A : Atoms 𝓤) (W : Given
         qed W ((‵ (flft κ q) ⊛ ‵ (flft κ₁ q₁) ⊛ ‵ ftrue) ∷ ‵ (owns (MutRef (named 0) κ T.the-row ∷ Rest) x at) ∷ []) ∵
         -- what the parameters own is taken apart, and what stands beside the monitor is had twice
         split ! $ move ! (2 ∷ []) $ fsplit ! $ fsplit3 ! $ drop ! $ move ! (2 ∷ []) $ use1 W (‵ Lent ⊛ ‵ Lent) lent-twice $ split ! $ move ! (2 ∷ 3 ∷ 4 ∷ 5 ∷ []) $
-        -- [obs; the borrow; m's token; the arrays' token; the arrays and the observation, twice]
+        -- [obs; the borrow; m's token; the table's token; the table and the observation, twice]
         enter ! C Λ code.function in-all _ $
-        alloc1 ! (λ l₀. alloc1 ! (λ l₁. alloc1 ! (λ l₂. alloc1 ! (λ l₃. alloc1 ! (λ l₄. alloc1 ! (λ l₅. alloc1 ! (λ l₆. alloc1 ! (λ l₇. alloc1 ! (λ l₈. alloc1 ! (λ l₉. alloc0 ! $ params1 ! $
-        pass1 ! (init ! 16 refl (tt, tt)) $ pass1 ! (init ! 14 refl (tt, tt)) $ pass1 ! (init ! 12 refl (tt, tt)) $ pass1 ! (init ! 10 refl (tt, tt)) $ pass1 ! (init ! 8 refl (tt, tt)) $ pass1 ! (init ! 6 refl (tt, tt)) $
-        pass1 ! (init ! 4 refl (EL.lawful O.the-type O′.the-laws 𝓤 H A W tt .typed s _ s-is .0)) $ pass0 ! $
+        alloc1 ! (λ l₀. alloc1 ! (λ l₁. alloc1 ! (λ l₂. alloc1 ! (λ l₃. alloc1 ! (λ l₄. alloc1 ! (λ l₅. alloc0 ! $ params1 ! $
+        pass1 ! (init ! 8 refl (tt, tt)) $ pass1 ! (init ! 6 refl (tt, tt)) $ pass1 ! (init ! 4 refl (EL.lawful O.the-type O′.the-laws 𝓤 H A W tt .typed s _ s-is .0)) $ pass0 ! $
         -- the borrow is opened
-        move ! (20 ∷ 21 ∷ 22 ∷ []) $
+        move ! (12 ∷ 13 ∷ 14 ∷ []) $
         opens ! tt T.the-row {h = h} b o (λ vs. spelt ! T.the-row (Is T.the-row) (shows 𝓤 H A T.the-row) vals (LL.tells T.the-type T′.the-laws) fullShare h vs b o $
         move ! (1 ∷ []) $ peeks ! T.the-row (Is T.the-row) (shows 𝓤 H A T.the-row) h (vals h) (λ is. move ! (1 ∷ 0 ∷ []) $
-        -- [the monitor's cell; what a Monitor owns; the open borrow; obs; auth; _9; …; _1; …; room for _0; …; the arrays' token; the arrays and the observation, twice]
-        assigns ! (of-opd ! (load ! (from ! (hop ! (look ! 21 refl) (stop !))) (look-raw ! 0 refl))) (from ! (stop !)) (init ! 7 refl (LL.lawful T.the-type T′.the-laws 𝓤 H A W .typed h _ is .0)) $
+        -- [the monitor's cell; what a Monitor owns; the open borrow; obs; auth; _5; …; _1; …; room for _0; …; the table's token; the table and the observation, twice]
+        assigns ! (of-opd ! (load ! (from ! (hop ! (look ! 13 refl) (stop !))) (look-raw ! 0 refl))) (from ! (stop !)) (init ! 7 refl (LL.lawful T.the-type T′.the-laws 𝓤 H A W .typed h _ is .0)) $
         -- the call
-        move ! (25 ∷ 26 ∷ []) $ use2 W (raw (Step 𝓤 H A at-mem run .pre to-step)) (goes is) $
-        calls-at ! fm (Step 𝓤 H A at-mem run) known to-step (and-then ! (load ! (from ! (stop !)) (look ! 20 refl)) (and-then ! (load ! (from ! (stop !)) (look ! 18 refl)) (and-then ! (load ! (from ! (stop !)) (look ! 16 refl)) (and-then ! (load ! (from ! (stop !)) (look ! 14 refl)) (and-then ! (load ! (from ! (stop !)) (look ! 12 refl)) (and-then ! (load ! (from ! (stop !)) (look ! 8 refl)) (and-then ! (load ! (from ! (stop !)) (look ! 10 refl)) (no-more !)))))))) (λ v.
+        move ! (17 ∷ 18 ∷ []) $ use2 W (raw (Step 𝓤 H A at-mem run .pre to-step)) (goes is) $
+        calls-at ! fm (Step 𝓤 H A at-mem run) known to-step (and-then ! (load ! (from ! (stop !)) (look ! 12 refl)) (and-then ! (load ! (from ! (stop !)) (look ! 8 refl)) (and-then ! (load ! (from ! (stop !)) (look ! 10 refl)) (no-more !)))) (λ v.
         use1 W (later (some (λ (r : Answered). ((‵ (flft κ₁ q₁) ⊛ ‵ ftrue) ⊛ ‵ (S.the-row .own r (v ∷ []))) ⊛ raw (ensured 𝓤 H A step.ended (step.clauses 𝓤 H A at-mem run) (κ₁, tt) arg tt r)))) (id⊢ 𝓤 _) $ await ! tt $ pick ! (λ r.
         split ! $ move ! (1 ∷ []) $ use1 W (raw (fact 𝓤 (Promised r))) (said r) $ heard ! (Promised r) (λ e. split ! $ move ! (1 ∷ []) $
         peeks ! S.the-row (Is S.the-row) (shows 𝓤 H A S.the-row) r (v ∷ []) (λ is′.
         land ! (from ! (stop !)) (init ! 7 refl (LL.lawful S.the-type S′.the-laws 𝓤 H A W .typed r _ is′ .0)) $
-        rewrite ! 7 (λ (u : Val). ‵ (fat fullShare S′.mir l₉ 0 u)) (ap only (LL.tells S.the-type S′.the-laws r _ is′)) refl $ drop ! $ move ! (1 ∷ 2 ∷ 3 ∷ 4 ∷ 5 ∷ []) $
-        -- [the monitor's cell; what a Monitor owns; the open borrow; obs; auth; the arrays' token; _9; …; _0; …; the arrays and the observation]
-        assigns ! (of-opd ! (load ! (from ! (fld ! refl (stop !))) (look-in ! 6 (sub ! 0 refl (whole !))))) (from ! (hop ! (look ! 22 refl) (stop !))) (store-raw ! 0 refl (LL.lawful T.the-type T′.the-laws 𝓤 H A W .typed (r .monitor) _ (mon-is r is′) .0)) $
-        assigns ! (of-opd ! (load ! (from ! (fld ! refl (stop !))) (look-in ! 6 (sub ! 1 refl (whole !))))) (from ! (stop !)) (init ! 24 refl (EL.lawful N.the-type N′.the-laws 𝓤 H A W tt .typed (r .answer) _ (ans-is r is′) .0)) $
+        rewrite ! 7 (λ (u : Val). ‵ (fat fullShare S′.mir l₅ 0 u)) (ap only (LL.tells S.the-type S′.the-laws r _ is′)) refl $ drop ! $ move ! (1 ∷ 2 ∷ 3 ∷ 4 ∷ 5 ∷ []) $
+        -- [the monitor's cell; what a Monitor owns; the open borrow; obs; auth; the table's token; _5; …; _0; …; the table and the observation]
+        assigns ! (of-opd ! (load ! (from ! (fld ! refl (stop !))) (look-in ! 6 (sub ! 0 refl (whole !))))) (from ! (hop ! (look ! 14 refl) (stop !))) (store-raw ! 0 refl (LL.lawful T.the-type T′.the-laws 𝓤 H A W .typed (r .monitor) _ (mon-is r is′) .0)) $
+        assigns ! (of-opd ! (load ! (from ! (fld ! refl (stop !))) (look-in ! 6 (sub ! 1 refl (whole !))))) (from ! (stop !)) (init ! 16 refl (EL.lawful N.the-type N′.the-laws 𝓤 H A W tt .typed (r .answer) _ (ans-is r is′) .0)) $
         -- the borrow is closed at the new monitor
         move ! (1 ∷ []) $ drop ! $ owned ! T.the-row (Is T.the-row) (LL.makes T.the-type T′.the-plain 𝓤 H A) (r .monitor) _ (mon-is r is′) $ move ! (1 ∷ 0 ∷ []) $ closes ! tt T.the-row (r .monitor) (vals (r .monitor)) b o $
-        -- [obs; the borrow; m's token; the arrays' token; _9; …; _0; …; the arrays and the observation]
-        returns ! (look ! 22 refl) $ forget ! 4 refl $ forget ! 6 refl $ forget ! 8 refl $ forget ! 10 refl $ forget ! 12 refl $ forget ! 14 refl $ forget ! 16 refl $ forget ! 18 refl $ forget ! 20 refl $ forget ! 22 refl $
-        move ! (22 ∷ 23 ∷ []) $ free1 ! $ move ! (20 ∷ 21 ∷ []) $ free1 ! $ move ! (18 ∷ 19 ∷ []) $ free1 ! $ move ! (16 ∷ 17 ∷ []) $ free1 ! $ move ! (14 ∷ 15 ∷ []) $ free1 ! $ move ! (12 ∷ 13 ∷ []) $ free1 ! $ move ! (10 ∷ 11 ∷ []) $ free1 ! $ move ! (8 ∷ 9 ∷ []) $ free1 ! $ move ! (6 ∷ 7 ∷ []) $ free1 ! $ move ! (4 ∷ 5 ∷ []) $ free1 ! $ free0 ! $
-        by ! (exits r e (ans-is r is′))))))))))))))))))
+        -- [obs; the borrow; m's token; the table's token; _5; …; _0; …; the table and the observation]
+        returns ! (look ! 14 refl) $ forget ! 4 refl $ forget ! 6 refl $ forget ! 8 refl $ forget ! 10 refl $ forget ! 12 refl $ forget ! 14 refl $
+        move ! (14 ∷ 15 ∷ []) $ free1 ! $ move ! (12 ∷ 13 ∷ []) $ free1 ! $ move ! (10 ∷ 11 ∷ []) $ free1 ! $ move ! (8 ∷ 9 ∷ []) $ free1 ! $ move ! (6 ∷ 7 ∷ []) $ free1 ! $ move ! (4 ∷ 5 ∷ []) $ free1 ! $ free0 ! $
+        by ! (exits r e (ans-is r is′))))))))))))))
 
 module _ {M : Type 1} (𝓤 : URA M) (H : Heap 𝓤) (A : Atoms 𝓤) (W : Given 𝓤 H A) (at-mem : Memory → SProp 𝓤) (run : Routine → Fun 𝓤) where
   observe-walks : (C : Calls 𝓤 H) (Λ : Loops 𝓤 H) → FmC 𝓤 H (W .laws) C → Triple 𝓤 (C #monitor·step) (Step 𝓤 H A at-mem run) → Walks 𝓤 H A f.ended stayed (WpFn 𝓤 H C Λ code.function) (f.clauses 𝓤 H A at-mem run)
-  observe-walks C Λ fm known = walked 𝓤 H A f.ended stayed (f.clauses 𝓤 H A at-mem run) (WpFn 𝓤 H C Λ code.function) (λ κs. (ptr-vals, (ptr-vals, (ptr-vals, (ptr-vals, (ptr-vals, (ptr-vals, (vals-o, tt))))))))
-      (λ κs. (mut-tells (named 0) (κs .0) T.the-row, (shr-tells (named 1) (κs .1 .0) (Words 16), (shr-tells (named 1) (κs .1 .0) (Halves 256), (shr-tells (named 1) (κs .1 .0) (Words 256), (shr-tells (named 1) (κs .1 .0) (Words 2048), (shr-tells (named 1) (κs .1 .0) (Halves 64), (EL.tells O.the-type O′.the-laws, tt))))))))
-      (λ κs qs bounds a _ are. via 𝓤 _ (fst∗ 𝓤 _ (emp 𝓤)) (walk 𝓤 H A W at-mem run (κs .0) (κs .1 .0) (qs .0) (qs .1 .0) (a .0 .ptr .0) (a .0 .ptr .1) (a .0 .name) (a .0 .now) (a .1 .0) (a .1 .1 .0) (a .1 .1 .1 .0) (a .1 .1 .1 .1 .0) (a .1 .1 .1 .1 .1 .0) (a .1 .1 .1 .1 .1 .1 .0) (are .1 .1 .1 .1 .1 .1 .0) C Λ fm known))
+  observe-walks C Λ fm known = walked 𝓤 H A f.ended stayed (f.clauses 𝓤 H A at-mem run) (WpFn 𝓤 H C Λ code.function) (λ κs. (ptr-vals, (ptr-vals, (vals-o, tt))))
+      (λ κs. (mut-tells (named 0) (κs .0) T.the-row, (shr-tells (named 1) (κs .1 .0) Words, (EL.tells O.the-type O′.the-laws, tt))))
+      (λ κs qs bounds a _ are. via 𝓤 _ (fst∗ 𝓤 _ (emp 𝓤)) (walk 𝓤 H A W at-mem run (κs .0) (κs .1 .0) (qs .0) (qs .1 .0) (a .0 .ptr .0) (a .0 .ptr .1) (a .0 .name) (a .0 .now) (a .1 .0) (a .1 .1 .0) (are .1 .1 .0) C Λ fm known))
 
   goes-all : AllGo 𝓤 H A W 2 (f.signature .params) (f.ended .kept) stayed
-  goes-all = (goes-ref 𝓤 H A W 2 0 tt (plain (λ _. T.the-row)), (goes-none-ref 𝓤 H A W 2 (1 ∷ []) tt (WordsS 16) yes, (goes-none-ref 𝓤 H A W 2 (1 ∷ []) tt (HalvesS 256) yes, (goes-none-ref 𝓤 H A W 2 (1 ∷ []) tt (WordsS 256) yes, (goes-none-ref 𝓤 H A W 2 (1 ∷ []) tt (WordsS 2048) yes, (goes-none-ref 𝓤 H A W 2 (1 ∷ []) tt (HalvesS 64) yes, (goes-none 𝓤 H A W 2 (λ _. O.the-row) yes (λ κs x f. refl), tt)))))))
+  goes-all = (goes-ref 𝓤 H A W 2 0 tt (plain (λ _. T.the-row)), (goes-none-ref 𝓤 H A W 2 (1 ∷ []) tt WordsS yes, (goes-none 𝓤 H A W 2 (λ _. O.the-row) yes (λ κs x f. refl), tt)))
 
 observe-meets : {M : Type 1} (𝓤 : URA M) (H : Heap 𝓤) (A : Atoms 𝓤) → Given 𝓤 H A → (at-mem : Memory → SProp 𝓤) (run : Routine → Fun 𝓤) (𝓣 : Tables 𝓤 H) → Triple 𝓤 (𝓣 .C #monitor·step) (Step 𝓤 H A at-mem run)
     → Meets 𝓤 H A f.signature (WpFn 𝓤 H (𝓣 .C) (𝓣 .Λ) code.function) (f.spec 𝓤 H A at-mem run)
