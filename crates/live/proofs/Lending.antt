@@ -18,6 +18,7 @@ use Rattle.book.specs.declared.Book.{Book}
 use Rattle.book.specs.declared.Translation.{Translation}
 use Rattle.book.specs.Books.{Translates, bookOf}
 use Rattle.book.specs.Looks.{Looks}
+use Rattle.book.proofs.Lookups.{looks}
 use Rattle.book.proofs.Translated.{translated}
 use Rattle.monitor.specs.Promise.{said, seen, Says, Freshes, Follows, ObservesLent}
 use Rattle.observing.specs.declared.Answer.{Answer}
@@ -80,14 +81,22 @@ module _ (S : Sheet) (b : Book) (oracle : Oracle) (right : Right (S .rules) orac
       let a = along rest (judge oracle k o .kept) (c .follows S k f oracle right) in
       record { answered = ap₂ (λ (x : ℕ) (l : List ℕ). x ∷ l) (c .answers S k f oracle right) (a .answered); follows = a .follows }
 
--- for every accepted sheet, the arrays that opening left and every list of observations, events and clock readings: the calls one after the other answer what the judge answers
-pub live-agreement : (sheet : List ℕ) (before after : Arrays) (r : ℕ) → OpensLent sheet before r after → (S : Sheet) → readSheet sheet ≡ accepted S
-    → (os : List Observation) (rs last : List ℕ) → Live (bookOf S) (after .monitor) os rs last → (oracle : Oracle) → Right (S .rules) oracle → LiveAgrees os rs last oracle
-live-agreement sheet before after r opens S is os rs last live oracle right =
-    let opened = subst (λ (x : R.Outcome). OpensBy x before r after) is opens in
-    let a = along S (bookOf S) oracle right live nothing (opened .1 .1) in
+-- from a monitor that follows the judge who has kept nothing
+agrees-from : (S : Sheet) (m : List ℕ) → Follows S nothing (bookOf S) m → (os : List Observation) (rs last : List ℕ) → Live (bookOf S) m os rs last → (oracle : Oracle) → Right (S .rules) oracle → LiveAgrees os rs last oracle
+agrees-from S m f os rs last live oracle right =
+    let a = along S (bookOf S) oracle right live nothing f in
     record {
       answered = a .answered;
       taken = follows-taken S (judgeKeeps oracle nothing os) (bookOf S) last (a .follows);
       verdict′ = follows-verdict S (judgeKeeps oracle nothing os) (bookOf S) last (a .follows);
     }
+
+-- for every accepted sheet, the arrays that opening left and every list of observations, events and clock readings: the calls one after the other answer what the judge answers
+pub live-agreement : (sheet : List ℕ) (before after : Arrays) (r : ℕ) → OpensLent sheet before r after → (S : Sheet) → readSheet sheet ≡ accepted S
+    → (os : List Observation) (rs last : List ℕ) → Live (bookOf S) (after .monitor) os rs last → (oracle : Oracle) → Right (S .rules) oracle → LiveAgrees os rs last oracle
+live-agreement sheet before after r opens S is = agrees-from S (after .monitor) (subst (λ (x : R.Outcome). OpensBy x before r after) is opens .1 .1)
+
+-- and so from the monitor that `guard_lent_start` left, under the book of any accepted sheet
+pub started-agreement : (m : List ℕ) → Freshes m → (sheet : List ℕ) → Bytes sheet → (S : Sheet) → readSheet sheet ≡ accepted S
+    → (os : List Observation) (rs last : List ℕ) → Live (bookOf S) m os rs last → (oracle : Oracle) → Right (S .rules) oracle → LiveAgrees os rs last oracle
+started-agreement m fresh sheet bytes S is = let formed = accepted-is-encoded sheet bytes is .formed in agrees-from S m (fresh S (bookOf S) formed (looks S formed))
