@@ -3,10 +3,10 @@ ghost use mathlib.Core.Path.{_≡_};
 ghost use Rattle.monitor.specs.Promise.{SaysOf};
 ghost use Rattle.monitor.specs.Value.{numbersOf};
 ghost use Rattle.session.specs.Session.{ObservesInPlace};
+use answers::Answer;
+use answers::Observation;
 use monitor::Answered;
 use monitor::Monitor;
-use observing::Answer;
-use observing::Observation;
 
 // One observation of the monitor that is handed over, under the book whose table is lent: the answer, and the monitor that the call left in the local that was lent to it.
 pub fn observed(m: Monitor, table: &[u64; 1104], o: Observation) -> Answered

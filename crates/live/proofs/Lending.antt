@@ -21,10 +21,10 @@ use Rattle.book.specs.Looks.{Looks}
 use Rattle.book.proofs.Lookups.{looks}
 use Rattle.book.proofs.Translated.{translated}
 use Rattle.monitor.specs.Promise.{said, seen, Says, Freshes, Follows, ObservesLent}
-use Rattle.observing.specs.declared.Answer.{Answer}
-use Rattle.observing.specs.declared.Answer.the-variants.{Whole, Open, Broken}
-use Rattle.observing.specs.declared.Answer.the-variants as A
-use Rattle.observing.specs.declared.Observation.{Observation as Seen}
+use Rattle.answers.specs.declared.Answer.{Answer}
+use Rattle.answers.specs.declared.Answer.the-variants.{Whole, Open, Broken}
+use Rattle.answers.specs.declared.Answer.the-variants as A
+use Rattle.answers.specs.declared.Observation.{Observation as Seen}
 use Rattle.monitor.proofs.Agreement.{follows-taken, follows-verdict}
 use Rattle.live.specs.Live.{answerWord, refusedWord, Arrays, OpensBy, OpensLent, NotesLent, verdictIs, Live, none, call, LiveAgrees}
 

@@ -6,7 +6,7 @@ ghost use Rattle.pattern.specs.Judge.{event, clock};
 ghost use Rattle.words.specs.Words.{heldBy};
 ghost use Rattle.monitor.specs.Promise.{Freshes, said};
 ghost use Rattle.live.specs.Live.{answerWord, refusedWord, OpensLent, NotesLent, verdictIs};
-use observing::Answer;
+use answers::Answer;
 
 // ---- an answer's number
 

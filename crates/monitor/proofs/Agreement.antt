@@ -38,8 +38,8 @@ use Rattle.words.specs.Words.{noState, Held, heldBy, Holds}
 use Rattle.opening.specs.Fresh.{freshState, freshHeld}
 use Rattle.monitor.specs.Promise.{said, seen, verdictIn, noModel, modelAt, Represents, Tracks, Follows, Observes, Freshes, Run, done, more, CodeAgreement}
 use Rattle.monitor.specs.Value.{numbersOf, Turns, Starts}
-use Rattle.observing.specs.declared.Observation.{Observation}
-use Rattle.observing.specs.declared.Answer.{Answer}
+use Rattle.answers.specs.declared.Observation.{Observation}
+use Rattle.answers.specs.declared.Answer.{Answer}
 use Rattle.monitor.specs.declared.Monitor.{Monitor}
 use Rattle.monitor.proofs.Holding.{rule-formed}
 

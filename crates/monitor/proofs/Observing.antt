@@ -31,13 +31,13 @@ use Rattle.tables.specs.Cells.{maskIn}
 use Rattle.step.proofs.Status.{running}
 use Rattle.words.specs.Words.{Held, heldBy}
 use Rattle.rules.specs.Pass.{Pass, passOf}
-use Rattle.observing.specs.Observe.{Observed, judgedOf, refusedOf, takenOf, lookedOf, observeOf}
-use Rattle.observing.specs.Leaving.{Leaves}
+use Rattle.answers.specs.Observe.{Observed, judgedOf, refusedOf, takenOf, lookedOf, observeOf}
+use Rattle.answers.specs.Leaving.{Leaves}
 use Rattle.monitor.specs.Promise.{said, seen, verdictIn, noModel, modelAt, Represents, Tracks, Follows, Observes, ObservesLent}
-use Rattle.observing.specs.declared.Observation.{Observation}
-use Rattle.observing.specs.declared.Observation.the-variants.{Event, Clock}
-use Rattle.observing.specs.declared.Answer.{Answer}
-use Rattle.observing.specs.declared.Answer.the-variants.{Whole, Open, Broken, Refused}
+use Rattle.answers.specs.declared.Observation.{Observation}
+use Rattle.answers.specs.declared.Observation.the-variants.{Event, Clock}
+use Rattle.answers.specs.declared.Answer.{Answer}
+use Rattle.answers.specs.declared.Answer.the-variants.{Whole, Open, Broken, Refused}
 use Rattle.monitor.proofs.Holding.{rule-sound}
 use Rattle.monitor.proofs.Taking.{status-at, statuses-length, after-length, pass-sixteen, pass-shows, pass-broken, pass-open, pass-due}
 

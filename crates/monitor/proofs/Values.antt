@@ -10,8 +10,8 @@ use Rattle.words.specs.Words.{Held, heldBy, Holds}
 use Rattle.monitor.specs.Promise.{Tracks, Follows, ObservesLent, Freshes}
 use Rattle.monitor.specs.Value.{numbersOf, TurnsLent, Starts}
 use Rattle.monitor.specs.declared.Monitor.{Monitor}
-use Rattle.observing.specs.declared.Observation.{Observation}
-use Rattle.observing.specs.declared.Answer.{Answer}
+use Rattle.answers.specs.declared.Observation.{Observation}
+use Rattle.answers.specs.declared.Answer.{Answer}
 
 -- a monitor is its numbers
 same-numbers : (a b : Monitor) → numbersOf a ≡ numbersOf b → a ≡ b

@@ -20,12 +20,12 @@ use Rattle.book.specs.declared.Book.{Book}
 use Rattle.step.specs.Shows.{Shows}
 use Rattle.step.proofs.Status.{running}
 use Rattle.words.specs.Words.{noState, Held, heldBy}
-use Rattle.observing.specs.declared.Observation.{Observation}
-use Rattle.observing.specs.declared.Observation.the-variants.{Event, Clock}
-use Rattle.observing.specs.declared.Answer.{Answer}
-pub use Rattle.observing.specs.Leaving.{said}
+use Rattle.answers.specs.declared.Observation.{Observation}
+use Rattle.answers.specs.declared.Observation.the-variants.{Event, Clock}
+use Rattle.answers.specs.declared.Answer.{Answer}
+pub use Rattle.answers.specs.Leaving.{said}
 
--- ---- the judge's value for each case of an observation; that of an answer is `said` of `observing/specs/Leaving`
+-- ---- the judge's value for each case of an observation; that of an answer is `said` of `answers/specs/Leaving`
 
 abbrev pub seen : Observation → J.Observation
 seen (Event name time) = J.event name time

@@ -11,8 +11,8 @@ use Rattle.book.specs.declared.Book.{Book}
 use Rattle.words.specs.Words.{Held}
 use Rattle.monitor.specs.Promise.{said, seen, Tracks}
 use Rattle.monitor.specs.declared.Monitor.{Monitor}
-use Rattle.observing.specs.declared.Observation.{Observation}
-use Rattle.observing.specs.declared.Answer.{Answer}
+use Rattle.answers.specs.declared.Observation.{Observation}
+use Rattle.answers.specs.declared.Answer.{Answer}
 
 -- a monitor's numbers, as words hold them
 abbrev pub numbersOf : Monitor → Held

@@ -3,11 +3,11 @@
 ghost use mathlib.Core.Path.{_≡_};
 ghost use lib.ListN.{length};
 ghost use Rattle.words.specs.Words.{heldBy, rulesIn, Holds};
-ghost use Rattle.observing.specs.declared.Observation.the-variants.{Event, Clock};
+ghost use Rattle.answers.specs.declared.Observation.the-variants.{Event, Clock};
 ghost use Rattle.monitor.specs.Promise.{ObservesLent, Freshes, Says, SaysOf};
 ghost use Rattle.monitor.specs.Value.{numbersOf, TurnsLent, Starts};
-use observing::Answer;
-use observing::Observation;
+use answers::Answer;
+use answers::Observation;
 use step::RuleState;
 
 // ---- in place

@@ -29,6 +29,18 @@ late-timely : (π : Plan X) (a : Bool) (end now : ℕ) → (a && not (π .inTime
 late-timely π true end now = refl
 late-timely π false end now = refl
 
+-- only a rule of kind 0 ends by being released
+once-is : (i : ℕ) (k : CheckedKind) → endingOf k ≡ release i → k ≡ once′ i
+once-is i (once′ n) w = let v : n ≡ i = cc in ap once′ v
+once-is i (repeated′ n) w = let v : _≡_ {A = ℕ} 0 1 = cc in absurd (omega arith)
+once-is i (timed′ a b t) w = let v : _≡_ {A = ℕ} 0 1 = cc in absurd (omega arith)
+
+-- the trigger's fragment stands past those of P
+getD-past : (i : ℕ) (fs : List Fragment) (n : ℕ) → length fs ≡ n → getD (fs ++ (triggerFragment i ∷ [])) n noFragment ≡ triggerFragment i
+getD-past i [] n w = rw (← w)
+getD-past i (x ∷ fs) zero w = absurd (omega (arith, w))
+getD-past i (x ∷ fs) (suc n) w = getD-past i fs n (omega (arith, w))
+
 module _ (c : CheckedRule) where
   -- what a state stands for
   abbrev pub Stands : RuleState → Place X → Type 0
@@ -138,13 +150,8 @@ module _ (c : CheckedRule) where
         subst (λ (b : Bool). Stands (step (ruleOf c) st e) (cond (X .closed (g .frag) (held st)) (cond b free dead) dead)) (and-true-or (eqb (e .name) i))
         (stands-onward free (eqb (e .name) i || false) true away (rw follow-is (ap (λ (f : Fragment). isIn (e .name) (fragmentNames f)) trigger-is)) never-late (λ h. rw follow-is freed))
       where
-        once-is : (k : CheckedKind) → endingOf k ≡ release i → k ≡ once′ i
-        once-is (once′ n) w = let v : n ≡ i = cc in ap once′ v
-        once-is (repeated′ n) w = let v : _≡_ {A = ℕ} 0 1 = cc in absurd (omega arith)
-        once-is (timed′ a b t) w = let v : _≡_ {A = ℕ} 0 1 = cc in absurd (omega arith)
-
         k-is : c .kind ≡ once′ i
-        k-is = once-is (c .kind) y
+        k-is = once-is i (c .kind) y
 
         follow-is : following (ruleOf c) (st .fragment) ≡ suc (st .fragment)
         follow-is = rw (last-is c (st .fragment) g rest q ∙ ap (ended X laws (planOf c) (endingOf (c .kind))) z ∙ ap (λ (x : Ending). ended X laws (planOf c) x []) y)
@@ -160,12 +167,7 @@ module _ (c : CheckedRule) where
                 omega (arith, n, d, e′)
 
         trigger-is : fragmentAt (ruleOf c) (suc (st .fragment)) ≡ triggerFragment i
-        trigger-is = ap (λ (k : Kind). getD (fragments (c .p ∷ c .ps) ++ M.lastFragments k) (suc (st .fragment)) noFragment) (ap kindOf k-is) ∙ getD-past (fragments (c .p ∷ c .ps)) (suc (st .fragment)) end-of-p
-          where
-            getD-past : (fs : List Fragment) (n : ℕ) → length fs ≡ n → getD (fs ++ (triggerFragment i ∷ [])) n noFragment ≡ triggerFragment i
-            getD-past [] n w = rw (← w)
-            getD-past (x ∷ fs) zero w = absurd (omega (arith, w))
-            getD-past (x ∷ fs) (suc n) w = getD-past fs n (omega (arith, w))
+        trigger-is = ap (λ (k : Kind). getD (fragments (c .p ∷ c .ps) ++ M.lastFragments k) (suc (st .fragment)) noFragment) (ap kindOf k-is) ∙ getD-past i (fragments (c .p ∷ c .ps)) (suc (st .fragment)) end-of-p
 
         never-late : late (ruleOf c) st e ≡ false
         never-late = ap (λ (b : Bool). belongs && not b) (ap (λ (k : CheckedKind). inTime (kindOf k) (st .end) (e .time)) k-is) ∙ and-false belongs

@@ -3,10 +3,10 @@
 // of records (u16), all little-endian, the sheet's bytes, and for each record a name or 255 for a clock reading and a time (u32).
 ghost use Prim.Native.Nat.{_+_, _*_, _≤_, _<_};
 ghost use lib.ListN.{length};
+use answers::Answer;
+use answers::Observation;
 use monitor::Answered;
 use monitor::Monitor;
-use observing::Answer;
-use observing::Observation;
 
 const STDIN: i32 = 0;
 

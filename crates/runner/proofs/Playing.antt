@@ -12,7 +12,7 @@ use Rattle.pattern.specs.Judge.{Oracle, Right, Kept, nothing, judge}
 use Rattle.layout.specs.Layout.{Sheet, WellFormedSheet}
 use Rattle.book.specs.Looks.{Looks}
 use Rattle.book.specs.declared.Book.{Book}
-use Rattle.observing.specs.declared.Observation.{Observation}
+use Rattle.answers.specs.declared.Observation.{Observation}
 use Rattle.monitor.specs.Promise.{seen, Follows, Freshes}
 use Rattle.monitor.proofs.Agreement.{follows-taken, follows-verdict}
 use Rattle.runner.specs.Log.{recordAt, ended, stops, stoppedBy, turnAt, play}

@@ -13,10 +13,10 @@ use Rattle.layout.specs.Form.{number}
 use Rattle.layout.specs.Layout.{Sheet}
 use Rattle.book.specs.declared.Book.{Book}
 use Rattle.words.specs.Words.{heldBy}
-use Rattle.observing.specs.declared.Observation.{Observation}
-use Rattle.observing.specs.declared.Answer.{Answer}
-use Rattle.observing.specs.declared.Answer.the-variants.{Whole, Open, Broken, Refused}
-use Rattle.observing.proofs.Answer.{the-type}
+use Rattle.answers.specs.declared.Observation.{Observation}
+use Rattle.answers.specs.declared.Answer.{Answer}
+use Rattle.answers.specs.declared.Answer.the-variants.{Whole, Open, Broken, Refused}
+use Rattle.answers.proofs.Answer.{the-type}
 use Rattle.monitor.specs.Promise.{said, seen, verdictIn, Says, Follows, ObservesLent}
 use Rattle.monitor.proofs.Agreement.{follows-taken, follows-verdict}
 use Rattle.runner.specs.Log.{ended, openMask, refusedAt, stops, stoppedBy}

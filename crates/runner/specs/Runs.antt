@@ -10,7 +10,7 @@ use Rattle.layout.specs.Layout.{Sheet, WellFormedSheet}
 use Rattle.book.specs.Looks.{Looks}
 use Rattle.book.specs.declared.Book.{Book}
 use Rattle.words.specs.Words.{heldBy}
-use Rattle.observing.specs.declared.Observation.{Observation}
+use Rattle.answers.specs.declared.Observation.{Observation}
 use Rattle.monitor.specs.Promise.{seen, verdictIn, Follows}
 use Rattle.runner.specs.Log.{ended, stops, stoppedBy, play, runOf}
 use Rattle.runner.specs.declared.Outcome.{Outcome}

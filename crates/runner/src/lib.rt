@@ -10,8 +10,8 @@ ghost use Rattle.monitor.specs.Promise.{seen, observation, verdictIn};
 ghost use Rattle.layout.specs.Form.{number};
 ghost use Rattle.runner.specs.Log.{recordFrom, ended, openMask, refusedAt, turnedAway};
 ghost use Rattle.runner.specs.Runs.{Runs, Plays, TurnsLent, endedIn};
-use observing::Answer;
-use observing::Observation;
+use answers::Answer;
+use answers::Observation;
 
 // ---- records
 

@@ -10,8 +10,8 @@ use Rattle.book.specs.declared.Book.{Book}
 use Rattle.monitor.specs.Promise.{Run, done, more, CodeAgreement}
 use Rattle.monitor.specs.Value.{numbersOf, Turns, Starts}
 use Rattle.monitor.specs.declared.Monitor.{Monitor}
-use Rattle.observing.specs.declared.Observation.{Observation}
-use Rattle.observing.specs.declared.Answer.{Answer}
+use Rattle.answers.specs.declared.Observation.{Observation}
+use Rattle.answers.specs.declared.Answer.{Answer}
 use Rattle.monitor.proofs.Agreement.{value-agreement}
 use Rattle.session.specs.Session.{Opens, Session, SessionAgreement}
 use Rattle.session.specs.declared.Opened.{Opened}

@@ -12,8 +12,8 @@ use Rattle.book.specs.declared.Book.{Book}
 use Rattle.monitor.specs.Promise.{said, seen, SaysOf, Run, CodeAgreement}
 use Rattle.monitor.specs.Value.{numbersOf, TurnsLent, Starts}
 use Rattle.monitor.specs.declared.Monitor.{Monitor}
-use Rattle.observing.specs.declared.Observation.{Observation}
-use Rattle.observing.specs.declared.Answer.{Answer}
+use Rattle.answers.specs.declared.Observation.{Observation}
+use Rattle.answers.specs.declared.Answer.{Answer}
 use Rattle.session.specs.declared.Opened.{Opened}
 
 -- ---- the calls

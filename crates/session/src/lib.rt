@@ -3,9 +3,9 @@ ghost use mathlib.Core.Path.{_≡_};
 ghost use Rattle.monitor.specs.Promise.{SaysOf};
 ghost use Rattle.monitor.specs.Value.{numbersOf, Starts};
 ghost use Rattle.session.specs.Session.{Opens, ObservesInPlace};
+use answers::Answer;
+use answers::Observation;
 use monitor::Monitor;
-use observing::Answer;
-use observing::Observation;
 
 // What opening a session from a sheet's bytes gives: the reader's answer, the book, and a fresh monitor for it.
 pub struct Opened {

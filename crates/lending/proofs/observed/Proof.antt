@@ -43,15 +43,15 @@ use denote.Triple.Table.{entered, cited}
 use denote.Triple.Walked.{says, Stays, stay-none, stay-none-ref, walkOf, AllGo, goes-none, goes-none-ref, Walks, ends-at, walked, walk-meets}
 use denote.Exit.{yes}
 use Rattle.monitor.specs.declared.Monitor.{Monitor}
-use Rattle.observing.specs.declared.Answer.{Answer}
-use Rattle.observing.specs.declared.Observation.{Observation}
+use Rattle.answers.specs.declared.Answer.{Answer}
+use Rattle.answers.specs.declared.Observation.{Observation}
 use Rattle.monitor.specs.declared.Answered.{Answered}
 use Rattle.monitor.proofs.Monitor as T
 use Rattle.monitor.proofs.Monitor.Laws as T′
-use Rattle.observing.proofs.Answer as N
-use Rattle.observing.proofs.Answer.Laws as N′
-use Rattle.observing.proofs.Observation as O
-use Rattle.observing.proofs.Observation.Laws as O′
+use Rattle.answers.proofs.Answer as N
+use Rattle.answers.proofs.Answer.Laws as N′
+use Rattle.answers.proofs.Observation as O
+use Rattle.answers.proofs.Observation.Laws as O′
 use Rattle.monitor.proofs.Answered as S
 use Rattle.monitor.proofs.Answered.Laws as S′
 use Rattle.session.specs.Session.{ObservesInPlace}

@@ -39,9 +39,9 @@ use denote.Exit.{yes}
 use Rattle.monitor.specs.declared.Monitor.{Monitor}
 use Rattle.monitor.proofs.Monitor as T
 use Rattle.monitor.proofs.Monitor.Laws as T′
-use Rattle.observing.specs.declared.Answer.{Answer}
-use Rattle.observing.proofs.Answer as N
-use Rattle.observing.proofs.Answer.Laws as N′
+use Rattle.answers.specs.declared.Answer.{Answer}
+use Rattle.answers.proofs.Answer as N
+use Rattle.answers.proofs.Answer.Laws as N′
 use Rattle.session.proofs.verdict as held
 use Rattle.session.proofs.verdict.Symbol as held-def
 use Rattle.session.proofs.verdict.Symbol.{name as #session·verdict}

@@ -3,7 +3,7 @@
 use mathlib.Core.Path.{_∙_}
 use native.Mathlib.Omega.{arith}
 use denote.Ref.{now}
-use Rattle.observing.proofs.Leaving.{leaves-stopped, leaves-early, leaves-full, leaves-taken, leaves-unnamed, leaves-named}
+use Rattle.answers.proofs.Leaving.{leaves-stopped, leaves-early, leaves-full, leaves-taken, leaves-unnamed, leaves-named}
 use borrow.Author.Needs.{needs}
 use Rattle.observing.proofs.noted.Statement.{statement}
 use Rattle.observing.proofs.noted.Tie as tie

@@ -2,7 +2,7 @@
 use mathlib.Core.Path.{_∙_}
 use native.Mathlib.Omega.{arith}
 use denote.Ref.{now}
-use Rattle.observing.proofs.Leaving.{leaves-stopped, leaves-early, leaves-full, leaves-taken, leaves-clock}
+use Rattle.answers.proofs.Leaving.{leaves-stopped, leaves-early, leaves-full, leaves-taken, leaves-clock}
 use borrow.Author.Needs.{needs}
 use Rattle.observing.proofs.ticked.Statement.{statement}
 use Rattle.observing.proofs.ticked.Tie as tie

@@ -38,11 +38,11 @@ use denote.Exit.{yes}
 use Rattle.monitor.specs.Promise.{SaysOf}
 use Rattle.monitor.specs.Value.{numbersOf}
 use Rattle.monitor.specs.declared.Monitor.{Monitor}
-use Rattle.observing.specs.declared.Answer.{Answer}
+use Rattle.answers.specs.declared.Answer.{Answer}
 use Rattle.monitor.proofs.Monitor as T
 use Rattle.monitor.proofs.Monitor.Laws as T′
-use Rattle.observing.proofs.Answer as N
-use Rattle.observing.proofs.Answer.Laws as N′
+use Rattle.answers.proofs.Answer as N
+use Rattle.answers.proofs.Answer.Laws as N′
 use Rattle.monitor.proofs.verdict_of as held
 use Rattle.monitor.proofs.verdict_of.Symbol as held-def
 use Rattle.monitor.proofs.verdict_of.Symbol.{name as #monitor·verdict-of}

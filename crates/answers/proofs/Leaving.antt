@@ -12,13 +12,13 @@ use Rattle.pattern.proofs.Basics.{zero-one}
 use Rattle.tables.specs.Cells.{maskIn}
 use Rattle.words.specs.Words.{Held, heldBy, rulesIn}
 use Rattle.rules.specs.Pass.{Pass, Passes}
-use Rattle.observing.specs.Observe.{judgedOf, refusedOf, takenOf, lookedOf, observeOf}
-use Rattle.observing.specs.Leaving.{Judges, Leaves}
-use Rattle.observing.specs.declared.Observation.{Observation}
-use Rattle.observing.specs.declared.Observation.the-variants.{Event, Clock}
+use Rattle.answers.specs.Observe.{judgedOf, refusedOf, takenOf, lookedOf, observeOf}
+use Rattle.answers.specs.Leaving.{Judges, Leaves}
+use Rattle.answers.specs.declared.Observation.{Observation}
+use Rattle.answers.specs.declared.Observation.the-variants.{Event, Clock}
 use Rattle.rules.specs.declared.Masks.{Masks}
-use Rattle.observing.specs.declared.Answer.{Answer}
-use Rattle.observing.specs.declared.Answer.the-variants.{Broken, Refused}
+use Rattle.answers.specs.declared.Answer.{Answer}
+use Rattle.answers.specs.declared.Answer.the-variants.{Broken, Refused}
 
 -- ---- a verdict is no refusal
 

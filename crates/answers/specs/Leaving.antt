@@ -7,9 +7,9 @@ use lib.ListN.{length}
 use Rattle.pattern.specs.Judge.{allWhole, someOpen, brokenAt}
 use Rattle.pattern.specs.Judge as J
 use Rattle.words.specs.Words.{Held, heldBy}
-use Rattle.observing.specs.Observe.{Observed, refusedOf, takenOf}
-use Rattle.observing.specs.declared.Answer.{Answer}
-use Rattle.observing.specs.declared.Answer.the-variants.{Whole, Open, Broken, Refused}
+use Rattle.answers.specs.Observe.{Observed, refusedOf, takenOf}
+use Rattle.answers.specs.declared.Answer.{Answer}
+use Rattle.answers.specs.declared.Answer.the-variants.{Whole, Open, Broken, Refused}
 
 -- the judge's value for each case of an answer
 abbrev pub said : Answer → J.Answer

@@ -1,10 +1,10 @@
--- `observing::judged` meets its contract: each test of a mask for 0 is the definition's. Assumes nothing.
+-- `answers::judged` meets its contract: each test of a mask for 0 is the definition's. Assumes nothing.
 use borrow.Author.Tests.{eq-eqb, ne-eqb}
-use Rattle.observing.specs.Observe.{judgedOf}
-use Rattle.observing.proofs.Leaving.{no-refusal}
+use Rattle.answers.specs.Observe.{judgedOf}
+use Rattle.answers.proofs.Leaving.{no-refusal}
 use borrow.Author.Needs.{needs}
-use Rattle.observing.proofs.judged.Statement.{statement}
-use Rattle.observing.proofs.judged.Tie as tie
+use Rattle.answers.proofs.judged.Statement.{statement}
+use Rattle.answers.proofs.judged.Tie as tie
 
 settle-requires : tie.Need-settle-requires
 settle-requires c κs = search needs

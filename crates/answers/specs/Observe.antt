@@ -6,10 +6,10 @@ use Prim.Native.Nat.{ℕ, _+_}
 use lib.Dec.{leb, ltb, eqb}
 use lib.ListN.{getD}
 use Rattle.words.specs.Words.{Held}
-use Rattle.observing.specs.declared.Observation.{Observation}
-use Rattle.observing.specs.declared.Observation.the-variants.{Event, Clock}
-use Rattle.observing.specs.declared.Answer.{Answer}
-use Rattle.observing.specs.declared.Answer.the-variants.{Whole, Open, Broken, Refused}
+use Rattle.answers.specs.declared.Observation.{Observation}
+use Rattle.answers.specs.declared.Observation.the-variants.{Event, Clock}
+use Rattle.answers.specs.declared.Answer.{Answer}
+use Rattle.answers.specs.declared.Answer.the-variants.{Whole, Open, Broken, Refused}
 use Rattle.tables.specs.Cells.{maskIn}
 use Rattle.rules.specs.Pass.{Pass, passOf}
 
