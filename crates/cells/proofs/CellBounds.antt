@@ -30,7 +30,7 @@ before-small head n h = either (eqb n 0) (omega (arith, round-small head)) (omeg
 
 pub loose-small : (word : ℕ) → looseFrom word < 2
 unfolding looseFrom
-loose-small word = either (eqb (countIn word) 1) (omega arith) (omega arith)
+loose-small word = either (eqb (countIn word) _) (omega arith) (omega arith)
 
 pub shared-small : (head word n : ℕ) → n < roundIn head → sharedCell head word n < 262144
 unfolding sharedCell
