@@ -10,10 +10,10 @@ use Rattle.pattern.specs.Meaning.{Range, Join, all, any, Fragment, Kind, once, 
 use Rattle.pattern.specs.Model.{lastFragments, roundOf, fragmentAt, noFragment}
 use Rattle.layout.specs.Layout.{Sheet, joinNumber, kindNumber, inQ, triggerOf, timeOf, WellFormedSheet}
 use Rattle.layout.specs.Pages.{noRange, noRule, ruleAt, rangeAt}
+use Rattle.cells.proofs.HeadLaws.{round-length}
 use Rattle.book.specs.Books.{bookOf}
 use Rattle.book.specs.Looks.{Looks}
 use Rattle.book.specs.declared.Book.{Book}
-use Rattle.book.proofs.HeadLaws.{round-length}
 use Rattle.book.proofs.Lookups.{looks}
 
 same-join : (a b : Join) → joinNumber a ≡ joinNumber b → a ≡ b

@@ -1,7 +1,4 @@
 pub mod Steps
-pub mod HeadLaws
-pub mod CellBounds
-pub mod CellLaws
 pub mod Turns
 pub mod TableLaws
 pub mod SetLaws

@@ -18,13 +18,14 @@ use Rattle.layout.specs.Pages.{fragmentWord, rangeWord, headTable, fragmentTabl
 use Rattle.layout.proofs.PageLaws.{head-at, fragment-at, range-at, round-formed, round-few, each-at}
 use Rattle.tables.specs.Words.{roundIn, cap, bitIn, countIn}
 use Rattle.tables.specs.Cells.{limitAt, cellAt, maskIn, limitIn, Cell, HoldsRules}
+use Rattle.cells.specs.Heads.{LooksHead}
+use Rattle.cells.proofs.HeadLaws.{head-round, looks-head}
+use Rattle.cells.proofs.CellLaws.{rule-cell}
 use Rattle.book.specs.Tables.{stored, fragmentSet, nameTable, ruleSet, ruleTable, maskOf, namesFrom, unionFrom, tableOf}
 use Rattle.book.specs.Books.{bookOf}
-use Rattle.book.specs.Looks.{LooksHead, LooksFragment, LooksRange, Looks}
+use Rattle.book.specs.Looks.{LooksFragment, LooksRange, Looks}
 use Rattle.tables.proofs.Bounds.{cap-of, cap-small}
 use Rattle.tables.proofs.WordLaws.{join-in, count-in, name-in, bit-in, low-in, high-in}
-use Rattle.book.proofs.HeadLaws.{head-round, looks-head}
-use Rattle.book.proofs.CellLaws.{rule-cell}
 use Rattle.layout.proofs.Once.{same-place, round-names}
 use Rattle.book.proofs.Steps.{mask-below}
 use Rattle.book.proofs.TableLaws.{Once, mask-stays, limit-at, cell-at}

@@ -1,7 +1,7 @@
 -- One turn of each loop that makes a table: what is made of i of them, and one more, is what is made of i + 1; and when there are no more, all is made.
 -- Assumes nothing.
 use mathlib.Core.Path.{_≡_, ap, _∙_}
-use mathlib.Core.Bool.{Bool, true, false, cond}
+use mathlib.Core.Bool.{cond}
 use mathlib.Core.List.{List}
 use Prim.Native.Nat.{ℕ, zero, suc, _+_, _*_, _<_, _≤_, _^_}
 use native.Mathlib.Nat.{mod-lt, zero-lt-suc}
@@ -13,7 +13,9 @@ use Rattle.names.specs.Names.{member, insert, withName}
 use Rattle.names.proofs.Sets.{insert-below}
 use Rattle.layout.proofs.Values.{with-name}
 use Rattle.tables.specs.Words.{bitIn}
-use Rattle.book.specs.Tables.{stored, inTurn, namesFrom, unionFrom, maskOf, cellWith, putCell}
+use Rattle.cells.specs.Making.{cellWith}
+use Rattle.cells.proofs.CellBounds.{either}
+use Rattle.book.specs.Tables.{stored, inTurn, namesFrom, unionFrom, maskOf, putCell}
 
 -- a loop that has passed n has made what n make
 pub all-made : {A : Type 0} (f : ℕ → A) {i n : ℕ} {x : A} → i ≤ n → n ≤ i → x ≡ f i → x ≡ f n
@@ -42,10 +44,6 @@ pub mask-more : (sets : List ℕ) (m i : ℕ) {mask x : ℕ} → mask ≡ maskOf
 mask-more sets m i e ex = rw (add-one, ← e) ex
 
 -- ---- bounds
-
-pub either : (b : Bool) {k x y : ℕ} → x < k → y < k → cond b x y < k
-either true p q = p
-either false p q = q
 
 pub mask-below : (sets : List ℕ) (m n : ℕ) → n ≤ 16 → maskOf sets m n < 2 ^ 16
 mask-below sets m zero h = omega arith

@@ -9,7 +9,8 @@ use lib.ListN.{length, getD, set, length-set}
 use lib.Seq.{getD-set-same, getD-set-other}
 use Rattle.tables.specs.Words.{timeIn, roundIn, countIn, bitIn}
 use Rattle.tables.specs.Cells.{limitAt, cellAt}
-use Rattle.book.specs.Tables.{inTurn, sharedCell, cellWith, putCell, putFragment, putRule}
+use Rattle.cells.specs.Making.{sharedCell, cellWith}
+use Rattle.book.specs.Tables.{inTurn, putCell, putFragment, putRule}
 use Rattle.book.proofs.Turns.{SameLength, Leaves, turn-length, turn-leaves, turn-at}
 
 -- j is no place of rule r's cells

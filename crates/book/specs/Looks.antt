@@ -6,19 +6,12 @@ use Prim.Native.Nat.{ℕ, _+_, _*_, _<_}
 use lib.ListN.{length, getD}
 use Rattle.pattern.specs.Meaning.{Rule}
 use Rattle.pattern.specs.Model.{roundOf, fragmentAt}
-use Rattle.layout.specs.Layout.{Sheet, joinNumber, kindNumber, inQ, triggerOf, timeOf, version}
+use Rattle.layout.specs.Layout.{Sheet, joinNumber, version}
 use Rattle.layout.specs.Pages.{ruleAt, rangeAt}
-use Rattle.tables.specs.Words.{kindIn, countPIn, countQIn, triggerIn, timeIn, joinIn, countIn, nameIn, lowIn, highIn}
+use Rattle.tables.specs.Words.{joinIn, countIn, nameIn, lowIn, highIn}
 use Rattle.tables.specs.Cells.{HoldsRules}
+use Rattle.cells.specs.Heads.{LooksHead}
 use Rattle.book.specs.declared.Book.{Book}
-
--- a rule's head
-pub record LooksHead (head : ℕ) (r : Rule) : Type 0 where
-  pub kind : kindIn head ≡ kindNumber (r .kind)
-  pub countP : countPIn head ≡ length (r .p)
-  pub countQ : countQIn head ≡ length (inQ (r .kind))
-  pub trigger : triggerIn head ≡ triggerOf (r .kind)
-  pub time : timeIn head ≡ timeOf (r .kind)
 
 -- fragment f of rule r
 pub record LooksFragment (word : ℕ) (r : Rule) (f : ℕ) : Type 0 where

@@ -1,16 +1,15 @@
 -- The table that is made of a sheet's pages, for a monitor's few look-ups: the rules that hold each name, each rule's t, and what each rule says of each of its names; and on the way to
 -- it the sets of names of each fragment and each rule. They are defined for all pages, those of a sheet or not.
 -- Assumes nothing.
-use mathlib.Core.Bool.{Bool, cond}
+use mathlib.Core.Bool.{cond}
 use mathlib.Core.List.{List}
-use Prim.Native.Nat.{ℕ, zero, suc, _+_, _-_, _*_, _%_}
+use Prim.Native.Nat.{ℕ, zero, suc, _+_, _*_}
 use lib.Bits.{bitOr}
-use lib.Dec.{eqb, leb}
 use lib.ListN.{getD, set, replicate}
 use Rattle.names.specs.Names.{member, insert}
-use Rattle.layout.specs.Reading.{byKind}
-use Rattle.tables.specs.Words.{cap, kindIn, countPIn, timeIn, roundIn, joinIn, countIn, bitIn, lowIn, highIn}
-use Rattle.tables.specs.Cells.{cellOf, limitAt, cellAt}
+use Rattle.tables.specs.Words.{cap, timeIn, roundIn, countIn, bitIn}
+use Rattle.tables.specs.Cells.{limitAt, cellAt}
+use Rattle.cells.specs.Making.{sharedCell, cellWith}
 
 -- f of each number below n, stored at it
 abbrev pub stored : (ℕ → ℕ) → ℕ → List ℕ → List ℕ
@@ -56,39 +55,6 @@ module _ (heads names : List ℕ) where
 abbrev pub maskOf : List ℕ → ℕ → ℕ → ℕ
 maskOf sets m zero = 0
 maskOf sets m (suc n) = cond (member (getD sets n 0) m) (insert (maskOf sets m n) n) (maskOf sets m n)
-
--- ---- the cells of a rule, from its head and its fragments' and ranges' words
-
--- after P, by the kind; and in P, where only before a deadline the last differs
-abbrev pub roleAfterP : ℕ → Bool → ℕ
-roleAfterP kind last = cond (eqb kind 0) 5 (cond (eqb kind 1) 4 (cond last 3 2))
-
-abbrev pub roleWithinP : ℕ → Bool → ℕ
-roleWithinP kind last = byKind kind (cond last 1 0) 0
-
--- of fragment n of the round
-unfoldable pub roleFrom : ℕ → ℕ → ℕ
-roleFrom head n = cond (leb (countPIn head) n) (roleAfterP (kindIn head) (leb (roundIn head) (suc n))) (roleWithinP (kindIn head) (leb (countPIn head) (suc n)))
-
--- the fragment that it follows
-unfoldable pub beforeFrom : ℕ → ℕ → ℕ
-beforeFrom head n = cond (eqb n 0) (roundIn head - 1) (n - 1)
-
--- one less than the count of its ranges, modulo 8
-abbrev pub lessFrom : ℕ → ℕ
-lessFrom word = (countIn word + 7) % 8
-
--- no other range of the fragment need come: it has one, or is joined any
-unfoldable pub looseFrom : ℕ → ℕ
-looseFrom word = cond (eqb (countIn word) 1) 1 (joinIn word % 2)
-
--- what the cells of its ranges share
-unfoldable pub sharedCell : ℕ → ℕ → ℕ → ℕ
-sharedCell head word n = cellOf n 0 (roleFrom head n) (beforeFrom head n) (looseFrom word) (lessFrom word) 0 0
-
--- with range i's own
-unfoldable pub cellWith : ℕ → ℕ → ℕ → ℕ
-cellWith shared word i = shared + 16 * i + 4294967296 * lowIn word + 281474976710656 * highIn word
 
 -- ---- the cells, stored
 

@@ -6,9 +6,10 @@ use native.Mathlib.Omega.{arith}
 use lib.ListN.{getD}
 use Rattle.tables.specs.Words.{roundIn, countIn}
 use Rattle.tables.proofs.Bounds.{round-small, count-small}
-use Rattle.book.specs.Tables.{inTurn, sharedCell, putCell, putFragment}
+use Rattle.cells.specs.Making.{sharedCell}
+use Rattle.cells.proofs.CellBounds.{shared-small}
+use Rattle.book.specs.Tables.{inTurn, putCell, putFragment}
 use Rattle.book.proofs.Steps.{all-made, turn-more}
-use Rattle.book.proofs.CellBounds.{shared-small}
 use borrow.Author.Needs.{needs}
 use Rattle.book.proofs.put_fragments.Statement.{statement}
 use Rattle.book.proofs.put_fragments.Tie as tie

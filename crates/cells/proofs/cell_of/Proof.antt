@@ -1,8 +1,8 @@
--- `book::cell_of` meets its contract. Assumes nothing.
-use Rattle.book.specs.Tables.{cellWith}
+-- `cells::cell_of` meets its contract. Assumes nothing.
+use Rattle.cells.specs.Making.{cellWith}
 use borrow.Author.Needs.{needs}
-use Rattle.book.proofs.cell_of.Statement.{statement}
-use Rattle.book.proofs.cell_of.Tie as tie
+use Rattle.cells.proofs.cell_of.Statement.{statement}
+use Rattle.cells.proofs.cell_of.Tie as tie
 
 low-requires : tie.Need-low-requires
 low-requires c κs = search needs

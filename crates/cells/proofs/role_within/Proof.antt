@@ -1,7 +1,7 @@
--- `book::role_within` meets its contract, by the kind. Assumes nothing.
+-- `cells::role_within` meets its contract, by the kind. Assumes nothing.
 use borrow.Author.Tests.{eq-eqb, ne-eqb}
-use Rattle.book.proofs.role_within.Statement.{statement}
-use Rattle.book.proofs.role_within.Tie as tie
+use Rattle.cells.proofs.role_within.Statement.{statement}
+use Rattle.cells.proofs.role_within.Tie as tie
 
 returns : tie.Need-returns
 returns c = simp (ne-eqb _ _ (c .if1 .taken))

@@ -13,7 +13,7 @@ use Rattle.layout.specs.Pages.{headerWord}
 use Rattle.layout.proofs.PageLaws.{round-few}
 use Rattle.tables.specs.Words.{kindIn, countPIn, countQIn, triggerIn, timeIn, roundIn}
 use Rattle.tables.proofs.Bounds.{cap-of}
-use Rattle.book.specs.Looks.{LooksHead}
+use Rattle.cells.specs.Heads.{LooksHead}
 
 -- ---- numbers
 

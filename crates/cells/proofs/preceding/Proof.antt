@@ -1,9 +1,9 @@
--- `book::preceding` meets its contract. Assumes nothing.
+-- `cells::preceding` meets its contract. Assumes nothing.
 use borrow.Author.Tests.{eq-eqb, ne-eqb}
-use Rattle.book.specs.Tables.{beforeFrom}
+use Rattle.cells.specs.Making.{beforeFrom}
 use borrow.Author.Needs.{needs}
-use Rattle.book.proofs.preceding.Statement.{statement}
-use Rattle.book.proofs.preceding.Tie as tie
+use Rattle.cells.proofs.preceding.Statement.{statement}
+use Rattle.cells.proofs.preceding.Tie as tie
 
 fragments-in-round-requires : tie.Need-fragments-in-round-requires
 fragments-in-round-requires c κs = search needs

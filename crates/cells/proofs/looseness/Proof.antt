@@ -1,13 +1,13 @@
--- `book::looseness` meets its contract: at each return the test of the count is as in `looseFrom`. Assumes nothing.
+-- `cells::looseness` meets its contract: at each return the test of the count is as in `looseFrom`. Assumes nothing.
 use mathlib.Core.Path.{_≡_, _∙_}
 use Prim.Native.Nat.{ℕ, _%_, _<_}
 use native.Mathlib.Omega.{arith}
 use borrow.Author.Tests.{eq-eqb, ne-eqb}
 use Rattle.tables.specs.Words.{joinIn, countIn}
-use Rattle.book.specs.Tables.{looseFrom}
+use Rattle.cells.specs.Making.{looseFrom}
 use borrow.Author.Needs.{needs}
-use Rattle.book.proofs.looseness.Statement.{statement}
-use Rattle.book.proofs.looseness.Tie as tie
+use Rattle.cells.proofs.looseness.Statement.{statement}
+use Rattle.cells.proofs.looseness.Tie as tie
 
 one : (word : ℕ) → countIn word ≡ 1 → (1 ≡ looseFrom word) × (1 < 2)
 unfolding looseFrom

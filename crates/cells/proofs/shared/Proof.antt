@@ -1,14 +1,14 @@
--- `book::shared` meets its contract: each part is small. Assumes nothing.
+-- `cells::shared` meets its contract: each part is small. Assumes nothing.
 use mathlib.Core.Path.{_≡_}
 use Prim.Native.Nat.{ℕ, _+_, _*_, _%_, _<_}
 use native.Mathlib.Omega.{arith}
 use Rattle.tables.specs.Words.{roundIn, countIn}
 use Rattle.tables.proofs.Bounds.{round-small, count-small}
-use Rattle.book.specs.Tables.{roleFrom, beforeFrom, looseFrom, sharedCell}
-use Rattle.book.proofs.CellBounds.{role-small, before-small}
+use Rattle.cells.specs.Making.{roleFrom, beforeFrom, looseFrom, sharedCell}
+use Rattle.cells.proofs.CellBounds.{role-small, before-small}
 use borrow.Author.Needs.{needs}
-use Rattle.book.proofs.shared.Statement.{statement}
-use Rattle.book.proofs.shared.Tie as tie
+use Rattle.cells.proofs.shared.Statement.{statement}
+use Rattle.cells.proofs.shared.Tie as tie
 
 small : (head word f : ℕ) {role previous count : ℕ} → f < roundIn head → role ≡ roleFrom head f → previous ≡ beforeFrom head f → count ≡ countIn word
     → (f < 16) × (role < 8) × (previous < 16) × (count < 9)

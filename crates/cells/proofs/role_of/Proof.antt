@@ -1,14 +1,14 @@
--- `book::role_of` meets its contract, by the fragments of P. Assumes nothing.
+-- `cells::role_of` meets its contract, by the fragments of P. Assumes nothing.
 use mathlib.Core.Path.{_≡_, _∙_}
 use Prim.Native.Nat.{ℕ, _+_, _<_, _≤_}
 use lib.Dec.{leb}
 use native.Mathlib.Numerals.{add-one}
 use borrow.Author.Tests.{le-leb, lt-leb}
 use Rattle.tables.specs.Words.{kindIn, countPIn, roundIn}
-use Rattle.book.specs.Tables.{roleAfterP, roleWithinP, roleFrom}
+use Rattle.cells.specs.Making.{roleAfterP, roleWithinP, roleFrom}
 use borrow.Author.Needs.{needs}
-use Rattle.book.proofs.role_of.Statement.{statement}
-use Rattle.book.proofs.role_of.Tie as tie
+use Rattle.cells.proofs.role_of.Statement.{statement}
+use Rattle.cells.proofs.role_of.Tie as tie
 
 module _ (head f : ℕ) {kind p all role : ℕ} (ek : kind ≡ kindIn head) (ep : p ≡ countPIn head) (ea : all ≡ roundIn head) where
   after : p ≤ f → role ≡ roleAfterP kind (leb all (f + 1)) → role ≡ roleFrom head f

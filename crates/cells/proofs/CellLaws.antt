@@ -14,10 +14,10 @@ use Rattle.layout.proofs.PageLaws.{round-formed, round-few, each-at}
 use Rattle.tables.specs.Words.{lowIn, highIn}
 use Rattle.tables.specs.Cells.{fragmentIn, indexIn, roleIn, beforeIn, looseIn, lessIn, leastIn, mostIn, cellOf, roleAfter, roleInP, roleOf, preceding, looseOf, Cell}
 use Rattle.tables.proofs.WordLaws.{join-in, count-in, low-in, high-in}
-use Rattle.book.specs.Tables.{roleAfterP, roleWithinP, roleFrom, beforeFrom, looseFrom, lessFrom, sharedCell, cellWith}
-use Rattle.book.specs.Looks.{LooksHead}
-use Rattle.book.proofs.HeadLaws.{head-round, looks-head}
-use Rattle.book.proofs.CellBounds.{role-small, before-small, loose-small}
+use Rattle.cells.specs.Making.{roleAfterP, roleWithinP, roleFrom, beforeFrom, looseFrom, lessFrom, sharedCell, cellWith}
+use Rattle.cells.specs.Heads.{LooksHead}
+use Rattle.cells.proofs.HeadLaws.{head-round, looks-head}
+use Rattle.cells.proofs.CellBounds.{role-small, before-small, loose-small}
 
 -- ---- numbers
 

@@ -1,13 +1,17 @@
--- The parts of a cell are small, whatever the pages: each fits its place in the number.
+-- The parts of a cell are small, whatever the words: each fits its place in the number.
 -- Assumes nothing.
-use mathlib.Core.Bool.{Bool}
+use mathlib.Core.Bool.{Bool, true, false, cond}
 use Prim.Native.Nat.{ℕ, suc, _<_}
 use native.Mathlib.Omega.{arith}
 use lib.Dec.{eqb, leb}
 use Rattle.tables.specs.Words.{kindIn, countPIn, roundIn, countIn}
 use Rattle.tables.proofs.Bounds.{round-small}
-use Rattle.book.specs.Tables.{roleAfterP, roleWithinP, roleFrom, beforeFrom, looseFrom, sharedCell}
-use Rattle.book.proofs.Steps.{either}
+use Rattle.cells.specs.Making.{roleAfterP, roleWithinP, roleFrom, beforeFrom, looseFrom, sharedCell}
+
+-- either of two small numbers is small
+pub either : (b : Bool) {k x y : ℕ} → x < k → y < k → cond b x y < k
+either true p q = p
+either false p q = q
 
 after-small : (kind : ℕ) (last : Bool) → roleAfterP kind last < 8
 after-small kind last = either (eqb kind 0) (omega arith) (either (eqb kind 1) (omega arith) (either last (omega arith) (omega arith)))
@@ -26,7 +30,7 @@ before-small head n h = either (eqb n 0) (omega (arith, round-small head)) (omeg
 
 pub loose-small : (word : ℕ) → looseFrom word < 2
 unfolding looseFrom
-loose-small word = either (eqb (countIn word) 1) (omega arith) (omega arith)
+loose-small word = either (eqb (countIn word) _) (omega arith) (omega arith)
 
 pub shared-small : (head word n : ℕ) → n < roundIn head → sharedCell head word n < 262144
 unfolding sharedCell

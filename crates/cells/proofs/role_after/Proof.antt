@@ -1,7 +1,7 @@
--- `book::role_after` meets its contract, by the kind. Assumes nothing.
+-- `cells::role_after` meets its contract, by the kind. Assumes nothing.
 use borrow.Author.Tests.{eq-eqb, ne-eqb}
-use Rattle.book.proofs.role_after.Statement.{statement}
-use Rattle.book.proofs.role_after.Tie as tie
+use Rattle.cells.proofs.role_after.Statement.{statement}
+use Rattle.cells.proofs.role_after.Tie as tie
 
 returns : tie.Need-returns
 returns c = simp (eq-eqb _ _ (c .if1 .taken))
