@@ -17,9 +17,9 @@ use denote.Memory.{cellAt, partAt, partOf}
 use denote.Steps.{owned}
 use denote.Struct.Steps.{spelt}
 use denote.Struct.Laws as LL
-use Rattle.monitor.specs.declared.Monitor.{Monitor}
-use Rattle.monitor.proofs.Monitor as T
-use Rattle.monitor.proofs.Monitor.Laws as T′
+use Rattle.value.specs.declared.Monitor.{Monitor}
+use Rattle.value.proofs.Monitor as T
+use Rattle.value.proofs.Monitor.Laws as T′
 
 -- a monitor's machine value, and the list of it
 abbrev pub val : Monitor → Val

@@ -1,12 +1,12 @@
 // Callers of the session in Rattle (document 01: "The host's session keeps one monitor, lent to the guard and changed in place"): each takes a monitor, keeps it in a local, and lends the local for one of the session's calls, by `&mut` or by `&`. They rest on the session's promises alone.
 ghost use mathlib.Core.Path.{_≡_};
 ghost use Rattle.monitor.specs.Promise.{SaysOf};
-ghost use Rattle.monitor.specs.Value.{numbersOf};
+ghost use Rattle.value.specs.Value.{numbersOf};
 ghost use Rattle.session.specs.Session.{ObservesInPlace};
 use answers::Answer;
 use answers::Observation;
-use monitor::Answered;
-use monitor::Monitor;
+use value::Answered;
+use value::Monitor;
 
 // One observation of the monitor that is handed over, under the book whose table is lent: the answer, and the monitor that the call left in the local that was lent to it.
 pub fn observed(m: Monitor, table: &[u64; 1104], o: Observation) -> Answered

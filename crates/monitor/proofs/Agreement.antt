@@ -37,10 +37,8 @@ use Rattle.step.proofs.Status.{running}
 use Rattle.words.specs.Words.{noState, Held, heldBy, Holds}
 use Rattle.opening.specs.Fresh.{freshState, freshHeld}
 use Rattle.monitor.specs.Promise.{said, seen, verdictIn, noModel, modelAt, Represents, Tracks, Follows, Observes, Freshes, Run, done, more, CodeAgreement}
-use Rattle.monitor.specs.Value.{numbersOf, Turns, Starts}
 use Rattle.answers.specs.declared.Observation.{Observation}
 use Rattle.answers.specs.declared.Answer.{Answer}
-use Rattle.monitor.specs.declared.Monitor.{Monitor}
 use Rattle.monitor.proofs.Holding.{rule-formed}
 
 -- ---- the fresh monitor
@@ -134,13 +132,13 @@ module _ {X : Type 0} (Call : X → Observation → Answer → X → Type 0) (F 
 
 -- for every accepted sheet's bytes: a run whose calls keep F, where F says that the numbers follow, agrees
 module _ (bytes : List ℕ) (are : Bytes bytes) (t : Translation) (translates : Translates bytes t) (S : Sheet) (is : readSheet bytes ≡ accepted S) where
-  formed : WellFormedSheet S
+  pub formed : WellFormedSheet S
   formed = accepted-is-encoded bytes are is .formed
 
-  looks : Looks S (t .book)
+  pub looks : Looks S (t .book)
   looks = translated bytes t are translates S is
 
-  agreed : {X : Type 0} {os : List Observation} {as′ : List Answer} {last : X} (held : X → Held) (Call : X → Observation → Answer → X → Type 0) (F : Kept → X → Type 0)
+  pub agreed : {X : Type 0} {os : List Observation} {as′ : List Answer} {last : X} (held : X → Held) (Call : X → Observation → Answer → X → Type 0) (F : Kept → X → Type 0)
       → ((k : Kept) (m : X) → F k m → Tracks S k (t .book) (held m))
       → ((oracle : Oracle) → Right (S .rules) oracle → (m next : X) (o : Observation) (a : Answer) → Call m o a next → (k : Kept) → F k m → said a ≡ judge oracle k (seen o) .answer)
       → ((oracle : Oracle) → Right (S .rules) oracle → (m next : X) (o : Observation) (a : Answer) → Call m o a next → (k : Kept) → F k m → F (judge oracle k (seen o) .kept) next)
@@ -161,9 +159,3 @@ module _ (bytes : List ℕ) (are : Bytes bytes) (t : Translation) (translates : 
   agreement m freshes os as′ last =
       agreed heldBy (Observes (t .book)) (λ k w. Follows S k (t .book) w) (λ k w f. f .tracks) (λ oracle right w next o a c k f. c .answers S k f oracle right) (λ oracle right w next o a c k f. c .follows S k f oracle right)
       m (freshes S (t .book) formed looks)
-
-  -- and by value
-  pub value-agreement : (m : Monitor) → Starts m → (os : List Observation) (as′ : List Answer) (last : Monitor) → Run (Turns (t .book)) m os as′ last → CodeAgreement S os as′ (numbersOf last)
-  value-agreement m starts os as′ last =
-      agreed numbersOf (Turns (t .book)) (λ k x. Tracks S k (t .book) (numbersOf x)) (λ k x f. f) (λ oracle right x next o a c k f. c .answers S k f oracle right) (λ oracle right x next o a c k f. c .follows S k f oracle right)
-      m (starts S (t .book) formed looks)

@@ -5,8 +5,8 @@ ghost use Prim.Native.Nat.{_+_, _*_, _≤_, _<_};
 ghost use lib.ListN.{length};
 use answers::Answer;
 use answers::Observation;
-use monitor::Answered;
-use monitor::Monitor;
+use value::Answered;
+use value::Monitor;
 
 const STDIN: i32 = 0;
 
@@ -74,21 +74,21 @@ fn turned(lent: bool, table: &[u64; 1104], m: Monitor, o: Observation) -> Answer
     if lent {
         return lending::observed(m, table, o);
     }
-    monitor::step(table, m, o)
+    value::step(table, m, o)
 }
 
 fn verdict_of(lent: bool, m: Monitor) -> Answer {
     if lent {
         return lending::verdict_of(m);
     }
-    monitor::verdict_of(m)
+    value::verdict_of(m)
 }
 
 fn taken_by(lent: bool, m: Monitor) -> u32 {
     if lent {
         return lending::taken_by(m);
     }
-    monitor::taken_by(m)
+    value::taken_by(m)
 }
 
 // One record, observed by value or by lending the monitor to the session, and told.
@@ -118,7 +118,7 @@ fn replay(lent: bool, taken: u32, sheet: &[u8], log: &[u8]) {
     let t = book::translate(sheet);
     let b = t.book;
     let table = b.table;
-    let mut m = monitor::start();
+    let mut m = value::start();
     m.taken = taken;
     let last = observe_all(lent, &table, m, log);
     io::write_all(STDOUT, b" |");

@@ -8,11 +8,11 @@ use Rattle.layout.specs.Layout.{Sheet, Bytes}
 use Rattle.layout.specs.Reading.{accepted, readSheet}
 use Rattle.book.specs.declared.Book.{Book}
 use Rattle.monitor.specs.Promise.{Run, done, more, CodeAgreement}
-use Rattle.monitor.specs.Value.{numbersOf, Turns, Starts}
-use Rattle.monitor.specs.declared.Monitor.{Monitor}
+use Rattle.value.specs.Value.{numbersOf, Turns, Starts}
+use Rattle.value.specs.declared.Monitor.{Monitor}
 use Rattle.answers.specs.declared.Observation.{Observation}
 use Rattle.answers.specs.declared.Answer.{Answer}
-use Rattle.monitor.proofs.Agreement.{value-agreement}
+use Rattle.value.proofs.Agreement.{value-agreement}
 use Rattle.session.specs.Session.{Opens, Session, SessionAgreement}
 use Rattle.session.specs.declared.Opened.{Opened}
 

@@ -10,8 +10,8 @@ use Rattle.layout.specs.Layout.{Sheet}
 use Rattle.book.specs.Books.{Translates}
 use Rattle.book.specs.declared.Book.{Book}
 use Rattle.monitor.specs.Promise.{said, seen, SaysOf, Run, CodeAgreement}
-use Rattle.monitor.specs.Value.{numbersOf, TurnsLent, Starts}
-use Rattle.monitor.specs.declared.Monitor.{Monitor}
+use Rattle.value.specs.Value.{numbersOf, TurnsLent, Starts}
+use Rattle.value.specs.declared.Monitor.{Monitor}
 use Rattle.answers.specs.declared.Observation.{Observation}
 use Rattle.answers.specs.declared.Answer.{Answer}
 use Rattle.session.specs.declared.Opened.{Opened}

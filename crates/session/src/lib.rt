@@ -1,11 +1,11 @@
 // A host's session (document 01, "Observing"): one monitor, lent to the guard and changed in place. Each call takes the state out, calls the monitor part by value and puts what it returns back; it rests on that part's promises alone.
 ghost use mathlib.Core.Path.{_≡_};
 ghost use Rattle.monitor.specs.Promise.{SaysOf};
-ghost use Rattle.monitor.specs.Value.{numbersOf, Starts};
+ghost use Rattle.value.specs.Value.{numbersOf, Starts};
 ghost use Rattle.session.specs.Session.{Opens, ObservesInPlace};
 use answers::Answer;
 use answers::Observation;
-use monitor::Monitor;
+use value::Monitor;
 
 // What opening a session from a sheet's bytes gives: the reader's answer, the book, and a fresh monitor for it.
 pub struct Opened {
@@ -21,7 +21,7 @@ pub fn open_sheet(bytes: &[u8]) -> Opened
     let t = book::translate(bytes);
     let answer = t.answer;
     let book = t.book;
-    let monitor = monitor::start();
+    let monitor = value::start();
     Opened {
         answer: answer,
         book: book,
@@ -33,7 +33,7 @@ pub fn open_sheet(bytes: &[u8]) -> Opened
 pub fn start(m: &mut Monitor)
     ensures { λ _. ⌜ Starts (now (m .exit)) ⌝ }
 {
-    *m = monitor::start();
+    *m = value::start();
 }
 
 // One observation of the session's monitor under the book whose table is lent: the judge's answer, and the monitor is left as one that follows what the judge then keeps. A refused observation leaves it equal.
@@ -42,7 +42,7 @@ pub fn observe(m: &mut Monitor, table: &[u64; 1104], o: Observation) -> Answer
     ensures { λ r. ⌜ ObservesInPlace (now (table .entry)) (now (m .entry)) o (now (m .exit)) r ⌝ }
 {
     let s = *m;
-    let r = monitor::step(table, s, o);
+    let r = value::step(table, s, o);
     *m = r.monitor;
     r.answer
 }
@@ -52,7 +52,7 @@ pub fn verdict(m: &Monitor) -> Answer
     ensures { λ r. ⌜ SaysOf r (numbersOf (now (m .entry))) ⌝ }
 {
     let s = *m;
-    monitor::verdict_of(s)
+    value::verdict_of(s)
 }
 
 // The number of observations that the session's monitor has taken. It is read, and not changed.
@@ -60,5 +60,5 @@ pub fn taken(m: &Monitor) -> u32
     ensures { λ r. ⌜ r ≡ now (m .entry) .taken ⌝ }
 {
     let s = *m;
-    monitor::taken_by(s)
+    value::taken_by(s)
 }

@@ -42,18 +42,18 @@ use denote.Triple.Clauses.{ensured, Lasts, lasts}
 use denote.Triple.Table.{entered, cited}
 use denote.Triple.Walked.{says, Stays, stay-none, stay-none-ref, walkOf, AllGo, goes-none, goes-none-ref, Walks, ends-at, walked, walk-meets}
 use denote.Exit.{yes}
-use Rattle.monitor.specs.declared.Monitor.{Monitor}
+use Rattle.value.specs.declared.Monitor.{Monitor}
 use Rattle.answers.specs.declared.Answer.{Answer}
 use Rattle.answers.specs.declared.Observation.{Observation}
-use Rattle.monitor.specs.declared.Answered.{Answered}
-use Rattle.monitor.proofs.Monitor as T
-use Rattle.monitor.proofs.Monitor.Laws as T′
+use Rattle.value.specs.declared.Answered.{Answered}
+use Rattle.value.proofs.Monitor as T
+use Rattle.value.proofs.Monitor.Laws as T′
 use Rattle.answers.proofs.Answer as N
 use Rattle.answers.proofs.Answer.Laws as N′
 use Rattle.answers.proofs.Observation as O
 use Rattle.answers.proofs.Observation.Laws as O′
-use Rattle.monitor.proofs.Answered as S
-use Rattle.monitor.proofs.Answered.Laws as S′
+use Rattle.value.proofs.Answered as S
+use Rattle.value.proofs.Answered.Laws as S′
 use Rattle.session.specs.Session.{ObservesInPlace}
 use Rattle.session.proofs.observe as observe
 use Rattle.session.proofs.observe.Symbol as observe-def

@@ -36,9 +36,9 @@ use denote.Triple.Clauses.{ensured, lasts}
 use denote.Triple.Table.{entered, cited}
 use denote.Triple.Walked.{Stays, stay-none, walkOf, AllGo, goes-none, Walks, ends-at, walked, walk-meets}
 use denote.Exit.{yes}
-use Rattle.monitor.specs.declared.Monitor.{Monitor}
-use Rattle.monitor.proofs.Monitor as T
-use Rattle.monitor.proofs.Monitor.Laws as T′
+use Rattle.value.specs.declared.Monitor.{Monitor}
+use Rattle.value.proofs.Monitor as T
+use Rattle.value.proofs.Monitor.Laws as T′
 use Rattle.answers.specs.declared.Answer.{Answer}
 use Rattle.answers.proofs.Answer as N
 use Rattle.answers.proofs.Answer.Laws as N′

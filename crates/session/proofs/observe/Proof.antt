@@ -1,5 +1,5 @@
--- `session::observe` meets its contract: a walk of its MIR. What the `&` owns is had twice. The borrow is opened, the whole monitor is copied into a local, `monitor::step` is called on the copy, and the monitor that it returned is stored whole through the reference; the borrow is closed at that monitor.
--- All that the proof knows of `monitor::step` is that it meets its contract. No field of `Monitor` and no case of `Answer` or `Observation` is named: the laws that the check makes of each type say all that is needed.
+-- `session::observe` meets its contract: a walk of its MIR. What the `&` owns is had twice. The borrow is opened, the whole monitor is copied into a local, `value::step` is called on the copy, and the monitor that it returned is stored whole through the reference; the borrow is closed at that monitor.
+-- All that the proof knows of `value::step` is that it meets its contract. No field of `Monitor` and no case of `Answer` or `Observation` is named: the laws that the check makes of each type say all that is needed.
 -- Assumes nothing.
 use mathlib.Core.Path.{refl, ap}
 use Prim.Native.Nat.{ℕ}
@@ -41,23 +41,23 @@ use denote.Triple.Clauses.{ensured, lasts}
 use denote.Triple.Table.{entered, cited}
 use denote.Triple.Walked.{says, Stays, stay-ref, stay-none, stay-none-ref, walkOf, AllGo, goes-none, goes-none-ref, goes-ref, Walks, ends-at, walked, walk-meets}
 use denote.Exit.{yes}
-use Rattle.monitor.specs.Value.{TurnsLent}
-use Rattle.monitor.specs.declared.Monitor.{Monitor}
+use Rattle.value.specs.Value.{TurnsLent}
+use Rattle.value.specs.declared.Monitor.{Monitor}
 use Rattle.answers.specs.declared.Answer.{Answer}
 use Rattle.answers.specs.declared.Observation.{Observation}
-use Rattle.monitor.specs.declared.Answered.{Answered}
-use Rattle.monitor.proofs.Monitor as T
-use Rattle.monitor.proofs.Monitor.Laws as T′
+use Rattle.value.specs.declared.Answered.{Answered}
+use Rattle.value.proofs.Monitor as T
+use Rattle.value.proofs.Monitor.Laws as T′
 use Rattle.answers.proofs.Answer as N
 use Rattle.answers.proofs.Answer.Laws as N′
 use Rattle.answers.proofs.Observation as O
 use Rattle.answers.proofs.Observation.Laws as O′
-use Rattle.monitor.proofs.Answered as S
-use Rattle.monitor.proofs.Answered.Laws as S′
-use Rattle.monitor.proofs.step as step
-use Rattle.monitor.proofs.step.Symbol as step-def
-use Rattle.monitor.proofs.step.Symbol.{name as #monitor·step}
-use Rattle.monitor.proofs.step.Met as step-thm
+use Rattle.value.proofs.Answered as S
+use Rattle.value.proofs.Answered.Laws as S′
+use Rattle.value.proofs.step as step
+use Rattle.value.proofs.step.Symbol as step-def
+use Rattle.value.proofs.step.Symbol.{name as #value·step}
+use Rattle.value.proofs.step.Met as step-thm
 use Rattle.session.proofs.observe.Key.{name as #session·observe}
 use Rattle.session.proofs.observe as f
 use Rattle.session.proofs.observe.Statement as stated
@@ -126,7 +126,7 @@ module _ {M : Type 1} (𝓤 : URA M) (H : Heap 𝓤) (A : Atoms 𝓤) (W : Given
   lent-twice : ent 𝓤 (sem 𝓤 H A Lent) (sep 𝓤 (sem 𝓤 H A Lent) (sem 𝓤 H A Lent))
   lent-twice = twices 𝓤 H A W Rest (shr-copy 𝓤 H A W (named 1) κ₁ Words, (EL.copy O.the-type O′.the-copy 𝓤 H A W, tt)) (x .1) (at .1)
 
-  -- what `monitor::step` is passed, and what it promises
+  -- what `value::step` is passed, and what it promises
   abbrev arg : Table × (Monitor × (Observation × Unit {0}))
   arg = (y, (h, (s, tt)))
 
@@ -154,7 +154,7 @@ module _ {M : Type 1} (𝓤 : URA M) (H : Heap 𝓤) (A : Atoms 𝓤) (W : Given
       says ! e $ move ! (2 ∷ 3 ∷ []) $ join ! $ frame ! $ feqI ! (List Val) (vptr b o ∷ []) (vptr b o ∷ []) refl $ fjoin3 ! $ fjoin ! $ frame ! $
       owned ! N.the-row (Is N.the-row) (EL.makes N.the-type N′.the-plain 𝓤 H A) (r .answer) _ is $ done !
 
-  module _ (C : Calls 𝓤 H) (Λ : Loops 𝓤 H) (fm : FmC 𝓤 H (W .laws) C) (known : Triple 𝓤 (C #monitor·step) (Step 𝓤 H A at-mem run)) where
+  module _ (C : Calls 𝓤 H) (Λ : Loops 𝓤 H) (fm : FmC 𝓤 H (W .laws) C) (known : Triple 𝓤 (C #value·step) (Step 𝓤 H A at-mem run)) where
     walk : ent 𝓤 (onEntry 𝓤 H A f.signature (κ, (κ₁, tt)) (q, (q₁, tt)) x at) (WpFn 𝓤 H C Λ code.function in-all Post)
     walk =
         qed W ((‵ (flft κ q) ⊛ ‵ (flft κ₁ q₁) ⊛ ‵ ftrue) ∷ ‵ (owns (MutRef (named 0) κ T.the-row ∷ Rest) x at) ∷ []) ∵
@@ -189,7 +189,7 @@ module _ {M : Type 1} (𝓤 : URA M) (H : Heap 𝓤) (A : Atoms 𝓤) (W : Given
         by ! (exits r e (ans-is r is′))))))))))))))
 
 module _ {M : Type 1} (𝓤 : URA M) (H : Heap 𝓤) (A : Atoms 𝓤) (W : Given 𝓤 H A) (at-mem : Memory → SProp 𝓤) (run : Routine → Fun 𝓤) where
-  observe-walks : (C : Calls 𝓤 H) (Λ : Loops 𝓤 H) → FmC 𝓤 H (W .laws) C → Triple 𝓤 (C #monitor·step) (Step 𝓤 H A at-mem run) → Walks 𝓤 H A f.ended stayed (WpFn 𝓤 H C Λ code.function) (f.clauses 𝓤 H A at-mem run)
+  observe-walks : (C : Calls 𝓤 H) (Λ : Loops 𝓤 H) → FmC 𝓤 H (W .laws) C → Triple 𝓤 (C #value·step) (Step 𝓤 H A at-mem run) → Walks 𝓤 H A f.ended stayed (WpFn 𝓤 H C Λ code.function) (f.clauses 𝓤 H A at-mem run)
   observe-walks C Λ fm known = walked 𝓤 H A f.ended stayed (f.clauses 𝓤 H A at-mem run) (WpFn 𝓤 H C Λ code.function) (λ κs. (ptr-vals, (ptr-vals, (vals-o, tt))))
       (λ κs. (mut-tells (named 0) (κs .0) T.the-row, (shr-tells (named 1) (κs .1 .0) Words, (EL.tells O.the-type O′.the-laws, tt))))
       (λ κs qs bounds a _ are. via 𝓤 _ (fst∗ 𝓤 _ (emp 𝓤)) (walk 𝓤 H A W at-mem run (κs .0) (κs .1 .0) (qs .0) (qs .1 .0) (a .0 .ptr .0) (a .0 .ptr .1) (a .0 .name) (a .0 .now) (a .1 .0) (a .1 .1 .0) (are .1 .1 .0) C Λ fm known))
@@ -197,7 +197,7 @@ module _ {M : Type 1} (𝓤 : URA M) (H : Heap 𝓤) (A : Atoms 𝓤) (W : Given
   goes-all : AllGo 𝓤 H A W 2 (f.signature .params) (f.ended .kept) stayed
   goes-all = (goes-ref 𝓤 H A W 2 0 tt (plain (λ _. T.the-row)), (goes-none-ref 𝓤 H A W 2 (1 ∷ []) tt WordsS yes, (goes-none 𝓤 H A W 2 (λ _. O.the-row) yes (λ κs x f. refl), tt)))
 
-observe-meets : {M : Type 1} (𝓤 : URA M) (H : Heap 𝓤) (A : Atoms 𝓤) → Given 𝓤 H A → (at-mem : Memory → SProp 𝓤) (run : Routine → Fun 𝓤) (𝓣 : Tables 𝓤 H) → Triple 𝓤 (𝓣 .C #monitor·step) (Step 𝓤 H A at-mem run)
+observe-meets : {M : Type 1} (𝓤 : URA M) (H : Heap 𝓤) (A : Atoms 𝓤) → Given 𝓤 H A → (at-mem : Memory → SProp 𝓤) (run : Routine → Fun 𝓤) (𝓣 : Tables 𝓤 H) → Triple 𝓤 (𝓣 .C #value·step) (Step 𝓤 H A at-mem run)
     → Meets 𝓤 H A f.signature (WpFn 𝓤 H (𝓣 .C) (𝓣 .Λ) code.function) (f.spec 𝓤 H A at-mem run)
 observe-meets 𝓤 H A W at-mem run 𝓣 known = walk-meets 𝓤 H A f.ended stayed W (goes-all 𝓤 H A W at-mem run) (f.clauses 𝓤 H A at-mem run) (WpFn 𝓤 H (𝓣 .C) (𝓣 .Λ) code.function) (WpFn-mono 𝓤 H (W .laws) 𝓣 code.function) (observe-walks 𝓤 H A W at-mem run (𝓣 .C) (𝓣 .Λ) (fmOf 𝓤 H (W .laws) 𝓣) known)
 
@@ -207,4 +207,4 @@ observe-spec 𝓤 H 𝓜 𝓖 𝓡 =
     entered 𝓤 H (tripleOf 𝓤 H (𝓖 .A) f.signature (f.spec 𝓤 H (𝓖 .A) (𝓜 .mem) (𝓡 .run)))
     (tables 𝓤 H 𝓜 𝓡 code.env .C) (tables 𝓤 H 𝓜 𝓡 code.env .Λ) #session·observe code.function (code.unfolded 𝓤 H 𝓜 𝓡)
     (observe-meets 𝓤 H (𝓖 .A) (givenOf 𝓤 H 𝓜 𝓖) (𝓜 .mem) (𝓡 .run) (tablesOf 𝓤 H 𝓜 (tables 𝓤 H 𝓜 𝓡 code.env))
-    (cited 𝓤 H (Step 𝓤 H (𝓖 .A) (𝓜 .mem) (𝓡 .run)) 𝓜 𝓡 code.env #monitor·step step-def.routine code.calls-monitor·step (step-thm.met 𝓤 H 𝓜 𝓖 𝓡)))
+    (cited 𝓤 H (Step 𝓤 H (𝓖 .A) (𝓜 .mem) (𝓡 .run)) 𝓜 𝓡 code.env #value·step step-def.routine code.calls-value·step (step-thm.met 𝓤 H 𝓜 𝓖 𝓡)))

@@ -1,4 +1,4 @@
--- `monitor::rules_in_words` meets its contract. After r turns the first r rules have their states. The measure is what is left of the 16. Assumes nothing.
+-- `value::rules_in_words` meets its contract. After r turns the first r rules have their states. The measure is what is left of the 16. Assumes nothing.
 use mathlib.Core.Path.{_≡_, refl, sym, ap, _∙_}
 use mathlib.Core.List.{List}
 use Prim.Native.Nat.{ℕ, _+_, _%_, _≤_, _<_, _-_}
@@ -10,8 +10,8 @@ use Rattle.fragment.specs.Upto.{mapN, mapN-more, length-mapN}
 use Rattle.words.specs.Words.{stateIn, noState, rulesIn}
 use Rattle.words.proofs.Places.{getD-any, getD-mapN}
 use borrow.Author.Needs.{needs}
-use Rattle.monitor.proofs.rules_in_words.Statement.{statement}
-use Rattle.monitor.proofs.rules_in_words.Tie as tie
+use Rattle.value.proofs.rules_in_words.Statement.{statement}
+use Rattle.value.proofs.rules_in_words.Tie as tie
 
 abbrev blank : List RuleState
 blank = replicate 16 noState

@@ -7,9 +7,9 @@ use Rattle.pattern.specs.Judge.{Kept}
 use Rattle.layout.specs.Layout.{Sheet}
 use Rattle.book.specs.declared.Book.{Book}
 use Rattle.words.specs.Words.{Held, heldBy, Holds}
 use Rattle.monitor.specs.Promise.{Tracks, Follows, ObservesLent, Freshes}
-use Rattle.monitor.specs.Value.{numbersOf, TurnsLent, Starts}
-use Rattle.monitor.specs.declared.Monitor.{Monitor}
+use Rattle.value.specs.Value.{numbersOf, TurnsLent, Starts}
+use Rattle.value.specs.declared.Monitor.{Monitor}
 use Rattle.answers.specs.declared.Observation.{Observation}
 use Rattle.answers.specs.declared.Answer.{Answer}
 

@@ -1,8 +1,8 @@
--- `monitor::start` meets its contract: the monitor that the fresh words hold. Assumes nothing.
-use Rattle.monitor.proofs.Values.{starts}
+-- `value::start` meets its contract: the monitor that the fresh words hold. Assumes nothing.
+use Rattle.value.proofs.Values.{starts}
 use borrow.Author.Needs.{needs}
-use Rattle.monitor.proofs.start.Statement.{statement}
-use Rattle.monitor.proofs.start.Tie as tie
+use Rattle.value.proofs.start.Statement.{statement}
+use Rattle.value.proofs.start.Tie as tie
 
 fresh-requires : tie.Need-fresh-requires
 fresh-requires c κs = search needs

@@ -9,8 +9,8 @@ use Rattle.layout.specs.Layout.{Sheet, WellFormedSheet}
 use Rattle.book.specs.Looks.{Looks}
 use Rattle.book.specs.declared.Book.{Book}
 use Rattle.words.specs.Words.{Held}
 use Rattle.monitor.specs.Promise.{said, seen, Tracks}
-use Rattle.monitor.specs.declared.Monitor.{Monitor}
+use Rattle.value.specs.declared.Monitor.{Monitor}
 use Rattle.answers.specs.declared.Observation.{Observation}
 use Rattle.answers.specs.declared.Answer.{Answer}
 

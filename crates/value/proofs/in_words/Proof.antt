@@ -1,10 +1,10 @@
--- `monitor::in_words` meets its contract: the words of the sixteen states, with the monitor's own two. Assumes nothing.
+-- `value::in_words` meets its contract: the words of the sixteen states, with the monitor's own two. Assumes nothing.
 use mathlib.Core.Path.{_∙_, ap}
 use mathlib.Core.List.{List}
 use Rattle.step.specs.declared.RuleState.{RuleState}
 use borrow.Author.Needs.{needs}
-use Rattle.monitor.proofs.in_words.Statement.{statement}
-use Rattle.monitor.proofs.in_words.Tie as tie
+use Rattle.value.proofs.in_words.Statement.{statement}
+use Rattle.value.proofs.in_words.Tie as tie
 
 rules-in-words-requires : tie.Need-rules-in-words-requires
 rules-in-words-requires c κs = search needs

@@ -1,7 +1,7 @@
--- `monitor::of_words` meets its contract: each number is the one that the words hold. Assumes nothing.
+-- `value::of_words` meets its contract: each number is the one that the words hold. Assumes nothing.
 use borrow.Author.Needs.{needs}
-use Rattle.monitor.proofs.of_words.Statement.{statement}
-use Rattle.monitor.proofs.of_words.Tie as tie
+use Rattle.value.proofs.of_words.Statement.{statement}
+use Rattle.value.proofs.of_words.Tie as tie
 
 rules-of-requires : tie.Need-rules-of-requires
 rules-of-requires c κs = search needs

@@ -1,4 +1,4 @@
--- `monitor::rules_of` meets its contract. After r turns the first r states are those that the words hold. The measure is what is left of the 16. Assumes nothing.
+-- `value::rules_of` meets its contract. After r turns the first r states are those that the words hold. The measure is what is left of the 16. Assumes nothing.
 use mathlib.Core.Path.{_≡_, refl, _∙_}
 use mathlib.Core.List.{List}
 use Prim.Native.Nat.{_%_, _≤_, _<_, _-_}
@@ -10,8 +10,8 @@ use Rattle.fragment.specs.Upto.{mapN, mapN-more}
 use Rattle.words.specs.Words.{noState, ruleFrom, rulesIn}
 use Rattle.words.proofs.Laws.{rule-at}
 use borrow.Author.Needs.{needs}
-use Rattle.monitor.proofs.rules_of.Statement.{statement}
-use Rattle.monitor.proofs.rules_of.Tie as tie
+use Rattle.value.proofs.rules_of.Statement.{statement}
+use Rattle.value.proofs.rules_of.Tie as tie
 
 abbrev blank : List RuleState
 blank = replicate 16 noState

@@ -1,8 +1,8 @@
--- `monitor::verdict_of` meets its contract: 2 is broken, 1 is open, and any other number is whole. Assumes nothing.
+-- `value::verdict_of` meets its contract: 2 is broken, 1 is open, and any other number is whole. Assumes nothing.
 use mathlib.Core.Path.{sym}
 use borrow.Author.Tests.{eq-eqb, ne-eqb}
-use Rattle.monitor.proofs.verdict_of.Statement.{statement}
-use Rattle.monitor.proofs.verdict_of.Tie as tie
+use Rattle.value.proofs.verdict_of.Statement.{statement}
+use Rattle.value.proofs.verdict_of.Tie as tie
 
 returns : tie.Need-returns
 returns c = sym (rw (eq-eqb _ 2 (c .if1 .taken)))

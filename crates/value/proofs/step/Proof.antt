@@ -1,8 +1,8 @@
--- `monitor::step` meets its contract: what `observe` promises of the words that hold the monitor. Assumes nothing.
-use Rattle.monitor.proofs.Values.{turns}
+-- `value::step` meets its contract: what `observe` promises of the words that hold the monitor. Assumes nothing.
+use Rattle.value.proofs.Values.{turns}
 use borrow.Author.Needs.{needs}
-use Rattle.monitor.proofs.step.Statement.{statement}
-use Rattle.monitor.proofs.step.Tie as tie
+use Rattle.value.proofs.step.Statement.{statement}
+use Rattle.value.proofs.step.Tie as tie
 
 in-words-requires : tie.Need-in-words-requires
 in-words-requires c κs = search needs
