@@ -4,19 +4,11 @@ use mathlib.Core.Path.{_≡_}
 use mathlib.Core.List.{List}
 use Prim.Native.Nat.{ℕ, _<_, _≤_}
 use lib.ListN.{length}
-use Rattle.pattern.specs.Judge.{allWhole, someOpen, brokenAt}
 use Rattle.pattern.specs.Judge as J
 use Rattle.words.specs.Words.{Held, heldBy}
-use Rattle.answers.specs.Observe.{Observed, refusedOf, takenOf}
+use Rattle.answers.specs.Cases.{said}
+use Rattle.answers.specs.Observe.{Observed}
 use Rattle.answers.specs.declared.Answer.{Answer}
-use Rattle.answers.specs.declared.Answer.the-variants.{Whole, Open, Broken, Refused}
-
--- the judge's value for each case of an answer
-abbrev pub said : Answer → J.Answer
-said Whole = J.verdict allWhole
-said (Open m) = J.verdict (someOpen m)
-said (Broken k m) = J.verdict (brokenAt k m)
-said (Refused n) = J.refused n
 
 -- what one observation leaves in a monitor's words, which are 34, as their type says: the monitor of a pair, its answer being the other half; a refused observation leaves every word
 pub record Leaves (before : List ℕ) (o : Observed) (a : Answer) (after : List ℕ) : Type 0 where

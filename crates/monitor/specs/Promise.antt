@@ -21,19 +21,8 @@ use Rattle.step.specs.Shows.{Shows}
 use Rattle.step.proofs.Status.{running}
 use Rattle.words.specs.Words.{noState, Held, heldBy}
 use Rattle.answers.specs.declared.Observation.{Observation}
-use Rattle.answers.specs.declared.Observation.the-variants.{Event, Clock}
 use Rattle.answers.specs.declared.Answer.{Answer}
-pub use Rattle.answers.specs.Leaving.{said}
-
--- ---- the judge's value for each case of an observation; that of an answer is `said` of `answers/specs/Leaving`
-
-abbrev pub seen : Observation → J.Observation
-seen (Event name time) = J.event name time
-seen (Clock time) = J.clock time
-
--- an observation in a host's numbers: "a name 0 to 63 or FF for a clock reading", and the time; any other number is a name that the judge refuses
-abbrev pub observation : ℕ → ℕ → J.Observation
-observation name time = cond (eqb name 255) (J.clock time) (J.event name time)
+pub use Rattle.answers.specs.Cases.{seen, said}
 
 -- the verdict that a monitor holds: 2 is broken, at the last observation taken; 1 is open
 abbrev pub verdictIn : Held → Verdict
@@ -103,7 +92,7 @@ Freshes m = (S : Sheet) (b : Book) → WellFormedSheet S → Looks S b → Follo
 
 -- ---- a run of calls
 
--- one observation after the other, each on what the last one left; what a call promises is all that is known of it. A call is one in words (`Observes`) or by value (`Value`'s `Turns`)
+-- one observation after the other, each on what the last one left; what a call promises is all that is known of it. A call is one in words (`Observes`) or by value (crate `value`, `Turns`)
 pub data Run {X : Type 0} (Call : X → Observation → Answer → X → Type 0) : X → List Observation → List Answer → X → Type 0 where
   done : {m : X} → Run Call m [] [] m
   more : {m next last : X} {o : Observation} {os : List Observation} {a : Answer} {as′ : List Answer} → Call m o a next → Run Call next os as′ last → Run Call m (o ∷ os) (a ∷ as′) last

@@ -8,7 +8,8 @@ use Prim.Native.Nat.{ℕ, zero, suc, _+_, _*_, _/_, _≤_, _<_, min}
 use native.Mathlib.Omega.{arith}
 use lib.ListN.{length, length-append}
 use Rattle.pattern.specs.Judge.{Observation, Oracle, Verdict, allWhole, someOpen, brokenAt, Answer, verdict, refused, Kept, nothing, latest, refusal, unlessRefused, unlessBroken, judge, judgeKeeps}
-use Rattle.runner.specs.Log.{recordAt, recordsFrom, badLength, turnedAway, ended, stops, isRefusal, stoppedBy, turnAt, play, consumedFrom, atMost, runOf, consumed}
+use Rattle.records.specs.Records.{recordAt}
+use Rattle.runner.specs.Log.{recordsFrom, badLength, turnedAway, ended, stops, isRefusal, stoppedBy, turnAt, play, consumedFrom, atMost, runOf, consumed}
 use Rattle.runner.specs.declared.Outcome.{Outcome}
 use Rattle.runner.proofs.Playing.{play-stops, play-goes}
 

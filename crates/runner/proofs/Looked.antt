@@ -9,7 +9,8 @@ use native.Mathlib.Omega.{arith}
 use lib.Dec.{ltb, eqb}
 use lib.ListN.{length}
 use Rattle.pattern.specs.Judge.{Observation, Oracle, Kept, nothing, judge}
-use Rattle.runner.specs.Log.{recordAt, badLength, turnedAway, stops, stoppedBy, turnAt, play, lookedFrom, atMost, runOf, lookedAt}
+use Rattle.records.specs.Records.{recordAt}
+use Rattle.runner.specs.Log.{badLength, turnedAway, stops, stoppedBy, turnAt, play, lookedFrom, atMost, runOf, lookedAt}
 use Rattle.runner.proofs.Playing.{play-stops, play-goes}
 
 module _ (oracle : Oracle) (log : List ℕ) (k : Kept) (i n : ℕ) where

@@ -15,7 +15,8 @@ use Rattle.book.specs.declared.Book.{Book}
 use Rattle.answers.specs.declared.Observation.{Observation}
 use Rattle.monitor.specs.Promise.{seen, Follows, Freshes}
 use Rattle.monitor.proofs.Agreement.{follows-taken, follows-verdict}
-use Rattle.runner.specs.Log.{recordAt, ended, stops, stoppedBy, turnAt, play}
+use Rattle.records.specs.Records.{recordAt}
+use Rattle.runner.specs.Log.{ended, stops, stoppedBy, turnAt, play}
 use Rattle.runner.specs.Runs.{Plays, Turns, TurnsLent, endedIn}
 use Rattle.runner.specs.declared.Outcome.{Outcome}
 use Rattle.runner.specs.declared.Turned.{Turned}

@@ -1,15 +1,13 @@
--- What a record's bytes, a monitor's verdict and an observation's answer say. Assumes nothing.
+-- What a monitor's verdict and an observation's answer say. Assumes nothing.
 use mathlib.Core.Path.{_≡_, refl, sym, _∙_, ap, ap₂, subst}
 use mathlib.Core.Logic.{_⊎_, ⊎-elim}
 use mathlib.Core.Bool.{true, false}
 use mathlib.Core.List.{List}
-use Prim.Native.Nat.{ℕ, _+_, _*_}
+use Prim.Native.Nat.{ℕ}
 use native.Mathlib.Omega.{arith}
-use lib.ListN.{getD}
 use denote.Enum.Declared.{tagOf}
 use Rattle.pattern.specs.Judge.{Verdict, allWhole, Oracle, Right, Kept, judge}
 use Rattle.pattern.specs.Judge as J
-use Rattle.layout.specs.Form.{number}
 use Rattle.layout.specs.Layout.{Sheet}
 use Rattle.book.specs.declared.Book.{Book}
 use Rattle.words.specs.Words.{heldBy}
@@ -22,14 +20,6 @@ use Rattle.monitor.proofs.Agreement.{follows-taken, follows-verdict}
 use Rattle.runner.specs.Log.{ended, openMask, refusedAt, stops, stoppedBy}
 use Rattle.runner.specs.Runs.{Turns, TurnsLent, endedIn}
 use Rattle.runner.specs.declared.Turned.{Turned}
-
--- four bytes, two by two
-pub four : (s : List ℕ) (at : ℕ) → number s 4 at ≡ getD s at 0 + 256 * getD s (at + 1) 0 + 65536 * (getD s (at + 2) 0 + 256 * getD s (at + 3) 0)
-unfolding number
-four s at =
-    let two : at + 1 + 1 ≡ at + 2 = omega arith in
-    let three : at + 2 + 1 ≡ at + 3 = omega arith in
-    rw (two, three) (omega arith)
 
 -- ---- a verdict that is told as an answer
 

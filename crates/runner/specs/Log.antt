@@ -2,23 +2,14 @@
 -- Assumes nothing.
 use mathlib.Core.Bool.{Bool, true, false, cond, _||_, not}
 use mathlib.Core.List.{List, [], _∷_}
-use Prim.Native.Nat.{ℕ, zero, suc, _+_, _*_, _/_, _%_, min}
+use Prim.Native.Nat.{ℕ, zero, suc, _*_, _/_, _%_, min}
 use lib.Dec.{ltb, eqb}
-use lib.ListN.{length, getD}
+use lib.ListN.{length}
 use Rattle.pattern.specs.Judge.{Observation, Oracle, Verdict, allWhole, someOpen, brokenAt, Answer, verdict, refused, Kept, nothing, Turn, judge}
-use Rattle.layout.specs.Form.{number}
-use Rattle.monitor.specs.Promise.{observation}
+use Rattle.records.specs.Records.{recordAt}
 use Rattle.runner.specs.declared.Outcome.{Outcome}
 
 -- ---- records
-
--- the record at an offset: "a name 0 to 63 or FF for a clock reading, then the time"; 64 to 254 are names that the judge refuses
-abbrev pub recordFrom : List ℕ → ℕ → Observation
-recordFrom log at = observation (getD log at 0) (number log 4 (at + 1))
-
--- record i of "5-byte records"
-abbrev pub recordAt : List ℕ → ℕ → Observation
-recordAt log i = recordFrom log (5 * i)
 
 -- n records, from record i on
 abbrev pub recordsFrom : List ℕ → ℕ → ℕ → List Observation

@@ -2,55 +2,15 @@
 // The monitor's words are the run's own and are changed in place; the book's table is lent by reference.
 ghost use mathlib.Core.Path.{_≡_};
 ghost use mathlib.Core.Bool.{true, false};
-ghost use Prim.Native.Nat.{_+_, _*_, _<_, _≤_, min};
+ghost use Prim.Native.Nat.{_*_, _≤_, min};
 ghost use lib.ListN.{length};
 ghost use Rattle.pattern.specs.Judge.{allWhole, someOpen, brokenAt};
 ghost use Rattle.words.specs.Words.{heldBy};
-ghost use Rattle.monitor.specs.Promise.{seen, observation, verdictIn};
-ghost use Rattle.layout.specs.Form.{number};
-ghost use Rattle.runner.specs.Log.{recordFrom, ended, openMask, refusedAt, turnedAway};
+ghost use Rattle.monitor.specs.Promise.{verdictIn};
+ghost use Rattle.runner.specs.Log.{ended, openMask, refusedAt, turnedAway};
 ghost use Rattle.runner.specs.Runs.{Runs, Plays, TurnsLent, endedIn};
 use answers::Answer;
 use answers::Observation;
-
-// ---- records
-
-fn wide(x: u8) -> u32
-    ensures { λ r. ⌜ (r ≡ x) × (r < 256) ⌝ }
-{
-    x as u32
-}
-
-// A time, a u32: the four bytes from an offset on, little-endian.
-fn time_at(log: &[u8], at: usize) -> u32
-    requires { ⌜ at + 4 ≤ length (now log) ⌝ }
-    ensures { λ r. ⌜ r ≡ number (now (log .entry)) 4 at ⌝ }
-{
-    let low = wide(log[at]) + 256 * wide(log[at + 1]);
-    let high = wide(log[at + 2]) + 256 * wide(log[at + 3]);
-    low + 65536 * high
-}
-
-// "a name 0 to 63 or FF for a clock reading"; 64 to 254 are names that observing refuses.
-fn observation(name: u8, time: u32) -> Observation
-    ensures { λ o. ⌜ seen o ≡ observation name time ⌝ }
-{
-    match name {
-        0..=63 => Observation::Event(name, time),
-        64..=254 => Observation::Event(name, time),
-        255 => Observation::Clock(time),
-    }
-}
-
-// The record at an offset: five bytes, the name and then the time.
-fn record_from(log: &[u8], at: usize) -> Observation
-    requires { ⌜ at + 5 ≤ length (now log) ⌝ }
-    ensures { λ o. ⌜ seen o ≡ recordFrom (now (log .entry)) at ⌝ }
-{
-    let name = log[at];
-    let time = time_at(log, at + 1);
-    observation(name, time)
-}
 
 // ---- the five numbers
 
@@ -204,7 +164,7 @@ fn play(table: &[u64; 1104], log: &[u8], n: u32) -> Outcome
     let mut i = 0u32;
     while i < n {
         let at = 5 * i;
-        let o = record_from(log, at as usize);
+        let o = records::record_from(log, at as usize);
         let t = turn(table, &mut m, o, at);
         if t.stops {
             return t.outcome;

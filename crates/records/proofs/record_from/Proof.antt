@@ -1,10 +1,10 @@
--- `runner::record_from` meets its contract: the first byte is the name, and the time comes after it. Assumes nothing.
+-- `records::record_from` meets its contract: the first byte is the name, and the time comes after it. Assumes nothing.
 use mathlib.Core.Path.{ap, _∙_}
 use lib.ListN.{getD}
-use Rattle.monitor.specs.Promise.{observation}
+use Rattle.records.specs.Records.{observation}
 use borrow.Author.Needs.{needs}
-use Rattle.runner.proofs.record_from.Statement.{statement}
-use Rattle.runner.proofs.record_from.Tie as tie
+use Rattle.records.proofs.record_from.Statement.{statement}
+use Rattle.records.proofs.record_from.Tie as tie
 
 shared-slice-read-name : tie.Need-shared-slice-read-name
 shared-slice-read-name c = search needs

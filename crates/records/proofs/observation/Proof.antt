@@ -1,7 +1,7 @@
--- `runner::observation` meets its contract: 255 is a clock reading, and the other two arms are events. Assumes nothing.
+-- `records::observation` meets its contract: 255 is a clock reading, and the other two arms are events. Assumes nothing.
 use borrow.Author.Tests.{ne-eqb}
-use Rattle.runner.proofs.observation.Statement.{statement}
-use Rattle.runner.proofs.observation.Tie as tie
+use Rattle.records.proofs.observation.Statement.{statement}
+use Rattle.records.proofs.observation.Tie as tie
 
 returns : tie.Need-returns
 returns c = simp (c .match .keys1)

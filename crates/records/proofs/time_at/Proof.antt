@@ -1,9 +1,9 @@
--- `runner::time_at` meets its contract: four bytes, two by two. Assumes nothing.
+-- `records::time_at` meets its contract: four bytes, two by two. Assumes nothing.
 use native.Mathlib.Omega.{arith}
-use Rattle.runner.proofs.Saying.{four}
+use Rattle.records.proofs.Bytes.{four}
 use borrow.Author.Needs.{needs}
-use Rattle.runner.proofs.time_at.Statement.{statement}
-use Rattle.runner.proofs.time_at.Tie as tie
+use Rattle.records.proofs.time_at.Statement.{statement}
+use Rattle.records.proofs.time_at.Tie as tie
 
 shared-slice-read-wide : tie.Need-shared-slice-read-wide
 shared-slice-read-wide c = search needs
