@@ -26,7 +26,8 @@ use Rattle.answers.specs.declared.Answer.the-variants.{Whole, Open, Broken}
 use Rattle.answers.specs.declared.Answer.the-variants as A
 use Rattle.answers.specs.declared.Observation.{Observation as Seen}
 use Rattle.monitor.proofs.Agreement.{follows-taken, follows-verdict}
-use Rattle.live.specs.Live.{answerWord, refusedWord, Arrays, OpensBy, OpensLent, NotesLent, verdictIs, Live, none, call, LiveAgrees}
+use Rattle.replies.specs.Replies.{refusedWord, answerWord}
+use Rattle.live.specs.Live.{Arrays, OpensBy, OpensLent, NotesLent, verdictIs, Live, none, call, LiveAgrees}
 
 -- ---- opening
 

@@ -1,31 +1,18 @@
 -- A live session of a C host (document 01, "Observing": "The host's session keeps one monitor, lent to the guard and changed in place"): the calls, in terms of the judge.
--- An answer is one number, its lowest eight bits first: answer (0 whole, 1 open, 2 broken, 3 refused), refusal number or 0, mask (16 bits), place (32 bits).
+-- An answer is one number (`replies/specs/Replies`).
 -- Assumes nothing.
 use mathlib.Core.Path.{_≡_}
 use mathlib.Core.List.{List, [], _∷_, map}
-use Prim.Native.Nat.{ℕ, _+_, _*_, _%_}
+use Prim.Native.Nat.{ℕ, _%_}
 use lib.ListN.{length}
-use Rattle.pattern.specs.Judge.{Observation, Oracle, Right, Verdict, allWhole, someOpen, brokenAt, Answer, verdict, refused, Kept, nothing, judge, judgeAnswers, judgeKeeps}
+use Rattle.pattern.specs.Judge.{Observation, Oracle, Right, Kept, nothing, judge, judgeAnswers, judgeKeeps}
 use Rattle.layout.specs.Layout.{Sheet}
 use Rattle.layout.specs.Reading.{Outcome, accepted, refused as turned, readSheet}
 use Rattle.book.specs.declared.Book.{Book}
 use Rattle.book.specs.Books.{bookOf}
 use Rattle.words.specs.Words.{heldBy}
+use Rattle.replies.specs.Replies.{verdictWord, refusedWord, answerWord}
 use Rattle.monitor.specs.Promise.{verdictIn, Follows}
-
--- ---- an answer's number: "Place is k for broken, the offset named below for refused, else 0"
-
-abbrev pub verdictWord : Verdict → ℕ
-verdictWord allWhole = 0
-verdictWord (someOpen mask) = 1 + 65536 * mask
-verdictWord (brokenAt k mask) = 2 + 65536 * mask + 4294967296 * k
-
-abbrev pub refusedWord : ℕ → ℕ → ℕ
-refusedWord number place = 3 + 256 * number + 4294967296 * place
-
-abbrev pub answerWord : Answer → ℕ
-answerWord (verdict v) = verdictWord v
-answerWord (refused number) = refusedWord number 0
 
 -- ---- opening: the two arrays that a host lends
 

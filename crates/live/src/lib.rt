@@ -1,45 +1,10 @@
 // A live session for C hosts (document 01, "Observing"): "The host's session keeps one monitor, lent to the guard and changed in place". The host lends the book's table, which opening
-// writes and nothing else changes, and the monitor's 34 words. An answer is one number: answer, refusal, mask, place, lowest first.
+// writes and nothing else changes, and the monitor's 34 words. An answer is one number (crate `replies`).
 ghost use mathlib.Core.Path.{_≡_};
-ghost use Prim.Native.Nat.{_+_, _*_};
 ghost use Rattle.pattern.specs.Judge.{event, clock};
 ghost use Rattle.words.specs.Words.{heldBy};
-ghost use Rattle.monitor.specs.Promise.{Freshes, said};
-ghost use Rattle.live.specs.Live.{answerWord, refusedWord, OpensLent, NotesLent, verdictIs};
-use answers::Answer;
-
-// ---- an answer's number
-
-fn refused_word(number: u8, place: u32) -> u64
-    ensures { λ r. ⌜ r ≡ refusedWord number place ⌝ }
-{
-    3 + 256 * (number as u64) + 4294967296 * (place as u64)
-}
-
-fn open_word(mask: u16) -> u64
-    ensures { λ r. ⌜ r ≡ 1 + 65536 * mask ⌝ }
-{
-    1 + 65536 * (mask as u64)
-}
-
-fn broken_word(k: u32, mask: u16) -> u64
-    ensures { λ r. ⌜ r ≡ 2 + 65536 * mask + 4294967296 * k ⌝ }
-{
-    2 + 65536 * (mask as u64) + 4294967296 * (k as u64)
-}
-
-fn answer_word(a: Answer) -> u64
-    ensures { λ r. ⌜ r ≡ answerWord (said a) ⌝ }
-{
-    match a {
-        Answer::Whole => 0,
-        Answer::Open(mask) => open_word(mask),
-        Answer::Broken(k, mask) => broken_word(k, mask),
-        Answer::Refused(number) => refused_word(number, 0),
-    }
-}
-
-// ---- the calls
+ghost use Rattle.monitor.specs.Promise.{Freshes};
+ghost use Rattle.live.specs.Live.{OpensLent, NotesLent, verdictIs};
 
 // Reads a sheet into the table of its book and makes a fresh monitor; 0. Or the sheet's refusal and its place: then neither is changed.
 #[no_mangle]
@@ -63,7 +28,7 @@ pub extern "C" fn guard_lent_open(
         }
         sheet::Answer::Refused { number, place } => {
             let at = place as u32;
-            refused_word(number, at)
+            replies::refused_word(number, at)
         }
     }
 }
@@ -88,7 +53,7 @@ pub extern "C" fn guard_lent_event(
     ensures { λ r. ⌜ NotesLent (now (book .entry)) (now (monitor .entry)) (event name time) r (now (monitor .exit)) ⌝ }
 {
     let a = monitor::note(book, monitor, name, time);
-    answer_word(a)
+    replies::answer_word(a)
 }
 
 // One clock reading.
@@ -97,7 +62,7 @@ pub extern "C" fn guard_lent_clock(book: &[u64; 1104], monitor: &mut [u64; 34], 
     ensures { λ r. ⌜ NotesLent (now (book .entry)) (now (monitor .entry)) (clock time) r (now (monitor .exit)) ⌝ }
 {
     let a = monitor::tick(book, monitor, time);
-    answer_word(a)
+    replies::answer_word(a)
 }
 
 // The verdict that the monitor holds.
@@ -105,7 +70,7 @@ pub extern "C" fn guard_lent_clock(book: &[u64; 1104], monitor: &mut [u64; 34], 
 pub extern "C" fn guard_lent_verdict(monitor: &[u64; 34]) -> u64
     ensures { λ r. ⌜ verdictIs r (now (monitor .entry)) ⌝ }
 {
-    answer_word(monitor::verdict(monitor))
+    replies::answer_word(monitor::verdict(monitor))
 }
 
 // The number of observations that the monitor has taken.

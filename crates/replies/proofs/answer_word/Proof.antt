@@ -1,7 +1,7 @@
--- `live::answer_word` meets its contract, by the cases of the answer. Assumes nothing.
+-- `replies::answer_word` meets its contract, by the cases of the answer. Assumes nothing.
 use borrow.Author.Needs.{needs}
-use Rattle.live.proofs.answer_word.Statement.{statement}
-use Rattle.live.proofs.answer_word.Tie as tie
+use Rattle.replies.proofs.answer_word.Statement.{statement}
+use Rattle.replies.proofs.answer_word.Tie as tie
 
 enum-told : tie.Need-enum-told
 enum-told c = search needs
