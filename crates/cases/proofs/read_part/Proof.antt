@@ -1,9 +1,9 @@
--- `vectors::read_part` is safe: the part that it lends is as long as the count, which it has tested.
+-- `cases::read_part` is safe: the part that it lends is as long as the count, which it has tested.
 -- Assumes nothing.
 use borrow.Author.Needs.{needs}
 use lib.Seq.{length-take-le}
-use Rattle.vectors.proofs.read_part.Statement.{statement}
-use Rattle.vectors.proofs.read_part.Tie as tie
+use Rattle.cases.proofs.read_part.Statement.{statement}
+use Rattle.cases.proofs.read_part.Tie as tie
 
 returns : tie.Need-returns
 returns c = search needs

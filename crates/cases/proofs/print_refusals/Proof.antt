@@ -1,9 +1,9 @@
--- `vectors::print_refusals` is safe and ends: the refusals up to 14 that are left grow fewer. Nothing
+-- `cases::print_refusals` is safe and ends: the refusals up to 14 that are left grow fewer. Nothing
 -- has to hold from turn to turn. Assumes nothing.
 use Prim.Native.Nat.{_-_}
 use borrow.Author.Needs.{needs}
-use Rattle.vectors.proofs.print_refusals.Statement.{statement}
-use Rattle.vectors.proofs.print_refusals.Tie as tie
+use Rattle.cases.proofs.print_refusals.Statement.{statement}
+use Rattle.cases.proofs.print_refusals.Tie as tie
 
 abbrev Inv-loop : tie.InvT-loop
 Inv-loop dues mets refusal₀ refusal = Unit
