@@ -2,10 +2,10 @@
 -- Assumes nothing.
 use mathlib.Core.Path.{_≡_}
 use mathlib.Core.List.{List}
-use Prim.Native.Nat.{ℕ, _<_, _≤_}
+use Prim.Native.Nat.{ℕ}
 use lib.ListN.{length}
 use Rattle.pattern.specs.Judge as J
-use Rattle.words.specs.Words.{Held, heldBy}
+use Rattle.words.specs.Words.{heldBy}
 use Rattle.answers.specs.Cases.{said}
 use Rattle.answers.specs.Observe.{Observed}
 use Rattle.answers.specs.declared.Answer.{Answer}

@@ -1,14 +1,14 @@
 -- The members of what the code computes from a word: of its complement, of a word without those of another, and its lowest one, which is its number of zeros at the low end.
 -- Digit 0 is the remainder by 2 and digit k + 1 is digit k of the half, so each goes by recursion on the word's width. They hold of words of every width. Assumes nothing.
 use mathlib.Core.Path.{_≡_, refl, sym, ap, _∙_}
-use mathlib.Core.Bool.{Bool, true, false, not, _&&_, and-true, and-false, and-self}
-use Prim.Native.Nat.{ℕ, zero, suc, _+_, _-_, _*_, _/_, _%_, _^_, _<_, _≤_}
+use mathlib.Core.Bool.{Bool, true, false, not, _&&_, and-true, and-self}
+use Prim.Native.Nat.{ℕ, zero, suc, _+_, _-_, _/_, _%_, _^_, _<_}
 use native.Mathlib.Omega.{arith}
 use lib.Arith.{lt-of-le-ne}
 use lib.Bits.{bitAnd, and-le-l}
 use lib.Count.{trailingZeros, under}
 use lib.Dec.{eqb, ltb, eqb·suc-zero, eqb·suc-suc}
-use borrow.Author.Tests.{eq-eqb, ne-eqb, eqb-true, ltb-true, ltb-false}
+use borrow.Author.Tests.{eq-eqb, ne-eqb, ltb-true, ltb-false}
 use Rattle.names.specs.Names.{member}
 use Rattle.names.proofs.Digits.{lowest, next, member-and}
 use Rattle.names.proofs.Sets.{member-beyond}

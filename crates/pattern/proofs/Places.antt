@@ -10,13 +10,12 @@ use lib.Dec.{T, eqb, T-not, le→leb}
 use lib.ListN.{length, drop, getD}
 use Rattle.pattern.specs.Lists.{In, isIn}
 use Rattle.pattern.specs.Meaning.{Event, Range, Fragment, fragmentNames, Kind, namesOf}
-use Rattle.pattern.specs.Recogniser.{State, unbegun, next, other, move, isError, Slot, slots, moves, notBegun, within, complete}
+use Rattle.pattern.specs.Recogniser.{State, unbegun, next, other, move, isError, Slot, slots, notBegun, within}
 use Rattle.pattern.specs.Model.{RuleState, triggerFragment, noFragment, inTime, isOnce, fragmentAt, has, following, afterP, released, late, classOf, moved, passes, stay, begin, step, endAfter}
 use Rattle.pattern.specs.Model as M
 use Rattle.pattern.proofs.Basics.{both, both-l, both-r, is-true, is-false, and-true-or, test, in-map, any←}
 use Rattle.pattern.proofs.Rounds.{Plan, Stage, Place, fresh, free, dead, at, Ending, again, release, Fits, timely, endOf, go, enter, ended}
 use Rattle.pattern.proofs.Rounds as R
-use Rattle.pattern.proofs.Deadline as D
 use Rattle.pattern.proofs.Running.{slot, kind}
 use Rattle.pattern.proofs.Fragment.{X, laws, Held, Runs, some-range, slots-start, start-count, first-range, running}
 use Rattle.pattern.proofs.Orderings.{stages, fragments}

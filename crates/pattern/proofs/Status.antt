@@ -8,7 +8,7 @@ use Prim.Native.Nat.{ℕ, suc}
 use lib.Dec.{T, not-T}
 use lib.ListN.{drop}
 use Rattle.pattern.specs.Lists.{anyOf}
-use Rattle.pattern.specs.Meaning.{Range, Fragment, broken, whole}
+use Rattle.pattern.specs.Meaning.{Range, Fragment, whole}
 use Rattle.pattern.specs.Recogniser.{State, unbegun, waiting, counting, done, isUnbegun, isError, Slot, slots, notBegun, erred, complete, canGrow}
 use Rattle.pattern.specs.Model.{RuleState, inTime, following, afterP, slotsOf, joinOf, released, atRest, pressed, overdue, statusAt}
 use Rattle.pattern.specs.Model as M

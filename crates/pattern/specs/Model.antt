@@ -10,7 +10,7 @@ use lib.ListN.{length, getD, replicate}
 use Rattle.pattern.specs.Lists.{isIn, allOf, anyOf}
 use Rattle.pattern.specs.Meaning.{Event, Range, Join, all, Fragment, fragmentNames, Kind, once, repeated, timed, Rule, namesOf, Status, broken, whole, open′}
 use Rattle.pattern.specs.Judge.{Observation, event, clock, timeOf, Verdict, allWhole, someOpen, brokenAt, Answer, verdict, refused, verdictOf, refusal}
-use Rattle.pattern.specs.Recogniser.{State, idle, Class, own, next, other, Slot, slots, moves, counts, notBegun, within, isIdle, isUnbegun, erred, complete, canGrow}
+use Rattle.pattern.specs.Recogniser.{State, idle, Class, next, other, Slot, slots, moves, counts, notBegun, within, isIdle, isUnbegun, erred, complete, canGrow}
 
 -- ---- the round of a rule
 

@@ -1,6 +1,6 @@
 -- The recogniser of a range (document 01, "The recogniser of a range"), and the recognisers of a fragment's ranges side by side: eight states and one count.
 -- Assumes nothing.
-use mathlib.Core.Bool.{Bool, true, false, cond, not}
+use mathlib.Core.Bool.{Bool, true, false, cond}
 use mathlib.Core.List.{List, [], _∷_}
 use Prim.Native.Nat.{ℕ, zero, suc}
 use lib.Dec.{leb, ltb, eqb}

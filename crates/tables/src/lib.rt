@@ -3,8 +3,8 @@
 ghost use mathlib.Core.Path.{_≡_};
 ghost use mathlib.Core.Bool.{cond};
 ghost use lib.Dec.{eqb};
-ghost use Prim.Native.Nat.{_<_, _≤_};
-ghost use Rattle.tables.specs.Cells.{fragmentIn, indexIn, roleIn, beforeIn, looseIn, lessIn, leastIn, mostIn, cellOf, maskIn, limitIn};
+ghost use Prim.Native.Nat.{_<_};
+ghost use Rattle.tables.specs.Cells.{fragmentIn, indexIn, roleIn, beforeIn, looseIn, lessIn, leastIn, mostIn, maskIn, limitIn};
 ghost use Rattle.tables.specs.Words.{kindIn, countPIn, countQIn, triggerIn, timeIn, roundIn, joinIn, countIn, bitIn, lowIn, highIn};
 
 // ---- a rule's head

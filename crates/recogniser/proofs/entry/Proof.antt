@@ -1,6 +1,6 @@
 -- `recogniser::entry` meets its contract: the shift brings the state's digit to the lowest place, and the mask takes it alone. Assumes nothing.
 use mathlib.Core.Path.{_≡_, _∙_}
-use Prim.Native.Nat.{ℕ, _*_, _/_, _%_, _^_, _<_}
+use Prim.Native.Nat.{ℕ, _*_, _/_, _%_, _^_}
 use native.Mathlib.Omega.{arith}
 use lib.Bits.{and-mask, bitAnd}
 use borrow.Author.Needs.{needs}
