@@ -32,8 +32,7 @@ use Rattle.book.specs.declared.Book.{Book}
 use Rattle.book.specs.declared.Translation.{Translation}
 use Rattle.book.proofs.Translated.{translated}
 use Rattle.step.specs.declared.RuleState.{RuleState}
-use Rattle.step.specs.Shows.{untouched}
-use Rattle.step.proofs.Status.{running}
+use Rattle.step.specs.Shows.{untouched, running}
 use Rattle.words.specs.Words.{noState, Held, heldBy, Holds}
 use Rattle.opening.specs.Fresh.{freshState, freshHeld}
 use Rattle.monitor.specs.Promise.{said, seen, verdictIn, noModel, modelAt, Represents, Tracks, Follows, Observes, Freshes, Run, done, more, CodeAgreement}

@@ -6,7 +6,7 @@ use Rattle.pattern.specs.Meaning.{WellFormed}
 use Rattle.layout.specs.Layout.{Sheet, WellFormedSheet, WellFormedRule}
 use Rattle.layout.specs.Pages.{ruleAt, noRule}
 use Rattle.layout.proofs.PageLaws.{each-at}
-use Rattle.step.specs.Shows.{Sound}
+use Rattle.step.proofs.Sound.{Sound}
 use Rattle.step.proofs.Sound.{sound}
 
 module _ (S : Sheet) (formed : WellFormedSheet S) (r : ℕ) (here : r < length (S .rules)) where

@@ -20,7 +20,7 @@ use Rattle.pattern.specs.Model as M
 use Rattle.pattern.proofs.Basics.{zero-one}
 use Rattle.pattern.proofs.Oracle.{modelOracle, right-oracle, one-turn}
 use Rattle.pattern.proofs.Agreement.{together}
-use Rattle.pattern.proofs.Agreement as A
+use Rattle.pattern.specs.Agreement as A
 use Rattle.layout.specs.Layout.{Sheet, WellFormedSheet}
 use Rattle.layout.specs.Pages.{ruleAt}
 use Rattle.layout.proofs.Accepted.{rules-formed}
@@ -28,7 +28,7 @@ use Rattle.book.specs.Looks.{Looks}
 use Rattle.book.specs.declared.Book.{Book}
 use Rattle.masks.proofs.Statuses.{member-mask}
 use Rattle.tables.specs.Cells.{maskIn}
-use Rattle.step.proofs.Status.{running}
+use Rattle.step.specs.Shows.{running}
 use Rattle.words.specs.Words.{Held, heldBy}
 use Rattle.rules.specs.Pass.{Pass, passOf}
 use Rattle.answers.specs.Observe.{Observed, judgedOf, refusedOf, takenOf, lookedOf, observeOf}

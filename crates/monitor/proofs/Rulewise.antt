@@ -21,9 +21,10 @@ use Rattle.tables.specs.Cells.{fragmentIn, indexIn, roleIn, beforeIn, limitAt, 
 use Rattle.fragment.specs.Fragments.{begunOf, completeOf, growsOf}
 use Rattle.deadline.specs.Deadlines.{dueOf, lateOf}
 use Rattle.step.specs.Steps.{brokenOf, standingOf, stoodOf, beginOf, movedBy, longerOf, otherOf, passOf, cellIn, actOf}
-use Rattle.step.specs.Shows.{Sound, Shows}
+use Rattle.step.specs.Shows.{Shows, running}
+use Rattle.step.proofs.Sound.{Sound}
 use Rattle.step.proofs.Roles.{statusIn}
-use Rattle.step.proofs.Status.{running, time-alone, running-is}
+use Rattle.step.proofs.Status.{time-alone, running-is}
 use Rattle.step.proofs.Links.{acts, held-to}
 use Rattle.rules.specs.Pass.{ruleOf, isBroken, isOpen, isDue}
 

@@ -24,8 +24,8 @@ use Rattle.masks.proofs.Statuses.{member-mask, mask-below, member-mask-past}
 use Rattle.step.specs.declared.RuleState.{RuleState}
 use Rattle.fragment.specs.Upto.{length-mapN}
 use Rattle.tables.specs.Cells.{HoldsRule}
-use Rattle.step.specs.Shows.{Sound, Shows}
-use Rattle.step.proofs.Status.{running}
+use Rattle.step.specs.Shows.{Shows, running}
+use Rattle.step.proofs.Sound.{Sound}
 use Rattle.words.specs.Words.{noState}
 use Rattle.words.proofs.Places.{getD-mapN}
 use Rattle.rules.specs.Pass.{Pass, touched, stateAt, brokenAt, openAt, dueAt, passOf}

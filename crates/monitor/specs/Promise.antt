@@ -12,13 +12,12 @@ use Rattle.pattern.specs.Judge.{NeverFalls, Oracle, Right, Verdict, allWhole, s
 use Rattle.pattern.specs.Judge as J
 use Rattle.pattern.specs.Model.{statuses}
 use Rattle.pattern.specs.Model as M
-use Rattle.pattern.proofs.Agreement as A
+use Rattle.pattern.specs.Agreement as A
 use Rattle.layout.specs.Layout.{Sheet, WellFormedSheet}
 use Rattle.layout.specs.Pages.{ruleAt}
 use Rattle.book.specs.Looks.{Looks}
 use Rattle.book.specs.declared.Book.{Book}
-use Rattle.step.specs.Shows.{Shows}
-use Rattle.step.proofs.Status.{running}
+use Rattle.step.specs.Shows.{Shows, running}
 use Rattle.words.specs.Words.{noState, Held, heldBy}
 use Rattle.answers.specs.declared.Observation.{Observation}
 use Rattle.answers.specs.declared.Answer.{Answer}

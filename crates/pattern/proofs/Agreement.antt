@@ -10,15 +10,11 @@ use lib.ListN.{length, length-append}
 use Rattle.pattern.specs.Meaning.{Rule, Status}
 use Rattle.pattern.specs.Judge.{Observation, timeOf, latest, Oracle, Right, Verdict, allWhole, someOpen, brokenAt, Answer, verdict, verdictOf, refusal, Kept, nothing, Turn, joining, unlessRefused, unlessBroken, judge, judgeAnswers, judgeKeeps}
 use Rattle.pattern.specs.Model.{RuleState, fresh, after, Monitor, freshStates, freshMonitor, afterAll, statuses, statusAt, Reply, take, orRefuse, orStopped, observe, answers, monitorAfter}
-use Rattle.pattern.specs.Agreement.{WellFormedRules, Agrees, Agreement}
+use Rattle.pattern.specs.Agreement.{WellFormedRules, stateAfter, statesAfter, Follows, Agrees, Agreement}
 use Rattle.pattern.proofs.Traces.{latest-snoc}
-use Rattle.pattern.proofs.Oracle.{stateAfter, modelOracle, right-oracle, one-judge}
+use Rattle.pattern.proofs.Oracle.{modelOracle, right-oracle, one-judge}
 
 -- ---- the states of all rules after a list
-
-abbrev pub statesAfter : List Rule → List Observation → List RuleState
-statesAfter [] os = []
-statesAfter (r ∷ rs) os = stateAfter r (fresh r) os ∷ statesAfter rs os
 
 fresh-states : (rules : List Rule) → freshStates rules ≡ statesAfter rules []
 fresh-states [] = refl
@@ -36,13 +32,7 @@ statuses-are : (rules : List Rule) (os : List Observation) → statuses rules (s
 statuses-are [] os = refl
 statuses-are (r ∷ rs) os = ap (λ (l : List Status). statusAt r (stateAfter r (fresh r) os) (latest os) ∷ l) (statuses-are rs os)
 
--- ---- the invariant
-
-pub record Follows (rules : List Rule) (k : Kept) (m : Monitor) : Type 0 where
-  pub states : m .rules ≡ statesAfter rules (k .taken)
-  pub time : m .latest ≡ latest (k .taken)
-  pub taken : m .taken ≡ length (k .taken)
-  pub verdict : m .verdict ≡ k .verdict
+-- ---- one turn keeps the invariant
 
 module _ (rules : List Rule) where
   -- the judge that asks the model's own oracle; `one-judge` makes it any judge

@@ -12,16 +12,12 @@ use Rattle.pattern.specs.Lists.{Each, isIn}
 use Rattle.pattern.specs.Meaning.{Event, Rule, namesOf, Matches, Status, broken, whole, open′, Broken, Judged, WellFormed}
 use Rattle.pattern.specs.Judge.{Observation, event, clock, timeOf, own, traceOf, latest, NeverFalls, EachJudged, Oracle, Right, Verdict, allWhole, someOpen, brokenAt, verdict, verdictOf, badName, refusal, Kept, nothing, Turn, joining, unlessRefused, unlessBroken, judge, judgeAnswers, judgeKeeps}
 use Rattle.pattern.specs.Model.{RuleState, fresh, step, statusAt, after}
+use Rattle.pattern.specs.Agreement.{stateAfter}
 use Rattle.pattern.proofs.Basics.{zero-one}
 use Rattle.pattern.proofs.Tracks.{Tracks, tracks-fresh, tracks-step, tracks-status}
 use Rattle.pattern.proofs.Traces.{never-falls-snoc, trace-rises, trace-past}
 
 -- ---- a right oracle: the model's states
-
--- a rule's state after a list of observations
-abbrev pub stateAfter : Rule → RuleState → List Observation → RuleState
-stateAfter r st [] = st
-stateAfter r st (o ∷ os) = stateAfter r (after r st o) os
 
 abbrev pub modelOracle : List Rule → Oracle
 modelOracle [] os = []

@@ -27,7 +27,8 @@ use Rattle.deadline.specs.Deadlines.{endOf}
 use Rattle.step.specs.declared.RuleState.{RuleState}
 use Rattle.step.specs.declared.Stepped.{Stepped}
 use Rattle.step.specs.Steps.{stoodOf, beginOf}
-use Rattle.step.specs.Shows.{Sound, Counting, freed, begun}
+use Rattle.step.specs.Shows.{Counting, freed, begun}
+use Rattle.step.proofs.Sound.{Sound}
 use Rattle.step.proofs.Indices.{moves-length, moves-at, moves-past, fresh-length, fresh-at, fresh-past, range-in}
 use Rattle.layout.proofs.Once.{in-names, same-range}
 use Rattle.step.proofs.Roles.{free-is, end-is}

@@ -26,7 +26,8 @@ use Rattle.deadline.specs.Deadlines.{pastOf, lateOf}
 use Rattle.step.specs.declared.RuleState.{RuleState}
 use Rattle.step.specs.declared.Stepped.{Stepped}
 use Rattle.step.specs.Steps.{brokenOf, beginOf, longerOf, otherOf, passOf, cellIn, actOf}
-use Rattle.step.specs.Shows.{Sound, Counting, Shows, untouched, freed, begun}
+use Rattle.step.specs.Shows.{Counting, Shows, untouched, freed, begun, running}
+use Rattle.step.proofs.Sound.{Sound}
 use Rattle.step.proofs.Indices.{fresh-length, fresh-at, slot-at, range-in}
 use Rattle.layout.proofs.Once.{same-range}
 use Rattle.step.proofs.Ranges as R
@@ -34,7 +35,6 @@ use Rattle.step.proofs.Roles.{clash, not-leb, free-is, late-is, precedi
 use Rattle.step.proofs.Settled.{Linked, erred-linked}
 use Rattle.step.proofs.First.{has-it, begin-linked}
 use Rattle.step.proofs.Within.{longer-linked, other-linked}
-use Rattle.step.proofs.Status.{running}
 
 module _ {table : List ℕ} {r : ℕ} {rule : Rule} (h : HoldsRule table r rule) (sound : Sound rule) (time : ℕ) where
   abbrev size : ℕ → ℕ

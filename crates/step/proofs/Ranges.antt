@@ -24,7 +24,8 @@ use Rattle.tables.specs.Cells.{indexIn, looseIn, lessIn, leastIn, mostIn, loose
 use Rattle.fragment.specs.Fragments.{noneWaits, completeOf, growsOf}
 use Rattle.fragment.proofs.States.{none-waits→, none-waits←}
 use Rattle.step.specs.declared.RuleState.{RuleState}
-use Rattle.step.specs.Shows.{Sound, Counting}
+use Rattle.step.specs.Shows.{Counting}
+use Rattle.step.proofs.Sound.{Sound}
 use Rattle.step.proofs.Indices.{slot-ranges, slot-at, Placed, placed}
 
 -- two tests that imply each other are one

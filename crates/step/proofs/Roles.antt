@@ -13,7 +13,7 @@ use Rattle.pattern.proofs.Basics.{zero-one}
 use Rattle.layout.specs.Layout.{timeOf}
 use Rattle.tables.specs.Cells.{roleIn, isTimed, roleAfter, roleInP, roleOf, preceding}
 use Rattle.deadline.specs.Deadlines.{pastOf, lateOf, endOf}
-use Rattle.step.specs.Shows.{Sound}
+use Rattle.step.proofs.Sound.{Sound}
 
 pub clash : {A : Type 0} → false ≡ true → A
 clash e = let z : _≡_ {A = ℕ} 0 1 = cc in absurd (zero-one z)

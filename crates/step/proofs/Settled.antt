@@ -15,10 +15,10 @@ use Rattle.tables.specs.Cells.{roleOf, Cell}
 use Rattle.step.specs.declared.RuleState.{RuleState}
 use Rattle.step.specs.declared.Stepped.{Stepped}
 use Rattle.step.specs.Steps.{brokenOf, standingOf}
-use Rattle.step.specs.Shows.{Sound, Counting, Shows, begun}
+use Rattle.step.specs.Shows.{Counting, Shows, begun, running}
+use Rattle.step.proofs.Sound.{Sound}
 use Rattle.step.proofs.Ranges as R
 use Rattle.step.proofs.Roles.{clash, statusIn, standingBy, status-by, running-by}
-use Rattle.step.proofs.Status.{running}
 
 -- what is to be shown of a step
 pub record Linked (rule : Rule) (time : ℕ) (s : Stepped) (S : M.RuleState) : Type 0 where

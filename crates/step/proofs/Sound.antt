@@ -1,20 +1,43 @@
--- A well-formed rule is sound, as its step asks.
+-- What the step asks of a rule (`Sound`), and that a well-formed rule has it.
 -- Assumes nothing.
 use mathlib.Core.Path.{_≡_, sym, _∙_, subst}
 use mathlib.Core.Bool.{false}
-use Prim.Native.Nat.{ℕ, _+_, _≤_, _<_}
+use Prim.Native.Nat.{ℕ, suc, _+_, _≤_, _<_}
 use native.Mathlib.Omega.{arith}
 use lib.Dec.{T}
 use lib.ListN.{length, length-append}
-use Rattle.pattern.specs.Lists.{In, Distinct}
-use Rattle.pattern.specs.Meaning.{Range, fragmentNames, orderingNames, Kind, once, repeated, timed, Rule, namesOf, WellFormedRange, WellFormedFragment, WellFormedKind, WellFormed}
+use Rattle.pattern.specs.Lists.{In, Distinct, isIn}
+use Rattle.pattern.specs.Meaning.{Range, fragmentNames, orderingNames, Kind, once, repeated, timed, Rule, namesOf, WellFormedRange, WellFormedFragment, WellFormedKind, WellFormed, Between}
 use Rattle.pattern.specs.Model.{lastFragments, roundOf, noFragment, fragmentAt, has}
+use Rattle.pattern.proofs.Running.{Fine}
 use Rattle.pattern.proofs.Basics.{each-in, isIn→, zero-one}
 use Rattle.layout.specs.Pages.{rangeAt, noRange}
 use Rattle.layout.proofs.PageLaws.{each-at, round-formed}
 use Rattle.layout.proofs.Once.{same-place, one-distinct, name-place, ordering-place, round-names}
 use Rattle.tables.specs.Cells.{isTimed}
-use Rattle.step.specs.Shows.{Sound}
+
+-- ---- what a well-formed rule has
+
+-- where a name stands: range i of fragment n
+pub record At (rule : Rule) (name : ℕ) : Type 0 where
+  pub n : ℕ
+  pub i : ℕ
+  pub inside : n < length (roundOf rule)
+  pub held : i < length (fragmentAt rule n .ranges)
+  pub is : name ≡ rangeAt rule n i .name
+
+pub record Sound (rule : Rule) : Type 0 where
+  pub some : 1 ≤ length (rule .p)
+  -- a trigger or a Q comes after P
+  pub after : length (rule .p) < length (roundOf rule)
+  pub fine : (n : ℕ) → n < length (roundOf rule) → Fine (fragmentAt rule n .ranges)
+  pub count : (n : ℕ) → n < length (roundOf rule) → Between 1 8 (length (fragmentAt rule n .ranges))
+  -- a name is in one fragment alone
+  pub apart : (n m name : ℕ) → n < length (roundOf rule) → m < length (roundOf rule) → T (has rule n name) → T (has rule m name) → n ≡ m
+  pub small : (n i : ℕ) → n < length (roundOf rule) → i < length (fragmentAt rule n .ranges) → rangeAt rule n i .name < 64
+  pub named : (name : ℕ) → T (isIn name (namesOf rule)) → At rule name
+  -- what comes after P is the trigger alone, but for Q
+  pub last : isTimed (rule .kind) ≡ false → length (roundOf rule) ≡ suc (length (rule .p))
 
 some-last : (k : Kind) → WellFormedKind k → 1 ≤ length (lastFragments k)
 some-last (once i) w = omega arith

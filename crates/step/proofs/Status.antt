@@ -10,13 +10,10 @@ use Rattle.pattern.specs.Meaning.{Kind, once, repeated, timed, Rule, broken, op
 use Rattle.pattern.specs.Recogniser.{erred, complete}
 use Rattle.tables.specs.Cells.{isTimed}
 use Rattle.pattern.specs.Model.{RuleState, inTime, isLast, afterP, slotsOf, joinOf, atRest, pressed, statusAt}
+use Rattle.step.specs.Shows.{running}
 
 clash : {A : Type 0} → false ≡ true → A
 clash e = let z : _≡_ {A = ℕ} 0 1 = cc in absurd (zero-one z)
-
--- the rule's deadline runs
-abbrev pub running : Rule → RuleState → Bool
-running r st = isTimed (r .kind) && (not (atRest r st) && (not (erred (slotsOf r st)) && pressed r st))
 
 -- kinds 0 and 1 are always in time
 always : (k : Kind) → isTimed k ≡ false → (end now : ℕ) → inTime k end now ≡ true

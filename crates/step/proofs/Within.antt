@@ -29,7 +29,8 @@ use Rattle.deadline.specs.Deadlines.{endOf}
 use Rattle.step.specs.declared.RuleState.{RuleState}
 use Rattle.step.specs.declared.Stepped.{Stepped}
 use Rattle.step.specs.Steps.{brokenOf, stoodOf, movedBy, longerOf, otherOf}
-use Rattle.step.specs.Shows.{Sound, Counting, begun}
+use Rattle.step.specs.Shows.{Counting, begun}
+use Rattle.step.proofs.Sound.{Sound}
 use Rattle.step.proofs.Indices.{moves-length, moves-at, moves-past, slot-at, range-in}
 use Rattle.step.proofs.Ranges as R
 use Rattle.step.proofs.Roles.{end-is}
