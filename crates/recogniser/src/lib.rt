@@ -1,13 +1,17 @@
-// The recogniser of a range (document 01): the table of moves, in document 01's numbers. Every number stands for a state, a class or a join, so nothing is asked of them.
-// `next_state` is what a caller asks: the column of a class, the entry of a state in it, and what an entry with a condition says.
+// The recogniser of a range (document 01): one move, in document 01's numbers. Every number stands for a state, a class or a join, so nothing is asked of them.
+// `next_state` is what a caller asks: the entry of the table of moves for a state and a class, and the state that this entry says.
 ghost use mathlib.Core.Path.{_≡_};
-ghost use Prim.Native.Nat.{min};
+ghost use Prim.Native.Nat.{_≤_, min};
 ghost use Rattle.pattern.specs.Recogniser.{stateNumber};
 ghost use Rattle.recogniser.specs.Numbers.{joinOf, bounds, nextState};
-ghost use Rattle.recogniser.specs.Entries.{entryState, entryIn, IsColumn};
+ghost use Rattle.recogniser.specs.Entries.{entryState, IsEntry};
 
 // "0 idle, 1 fragment not begun, 2 waiting while a sibling has begun, 3 counting, 4 done, 5 error".
 const IDLE: u8 = 0;
+
+const UNBEGUN: u8 = 1;
+
+const WAITING: u8 = 2;
 
 const COUNTING: u8 = 3;
 
@@ -21,45 +25,45 @@ const OTHER: u8 = 3;
 // "join (0 all, 1 any)".
 const ALL: u8 = 0;
 
-// Entries of the table that stand for a move with a condition.
+// Entries of the table that are no state but a move with a condition. "3 if count < v, else 5":
 const COUNTING_IF_ROOM: u8 = 6;
 
+// "4 if count ≥ u, else 5":
 const DONE_IF_ENOUGH: u8 = 7;
 
+// "0 if count ≥ u, else 5":
 const IDLE_IF_ENOUGH: u8 = 8;
 
+// "0 if any, 5 if all":
 const IDLE_IF_ANY: u8 = 9;
 
-// "The moves are one constant table of states against classes". A class has a column, and in it each state has a hexadecimal digit, state 0 the lowest:
-//
-// | from | own | sibling | next | other |
-// |---|---|---|---|---|
-// | 5 | 5 | 5 | 5 | 5 |
-// | 4 | 5 | 4 | 0 | 5 |
-// | 3 | 6: 3 if count < v, else 5 | 7: 4 if count ≥ u, else 5 | 8: 0 if count ≥ u, else 5 | 5 |
-// | 2 | 3 | 2 | 9: 0 if any, 5 if all | 5 |
-// | 1 | 3 | 2 | 5 | 5 |
-// | 0 | 0 | 0 | 0 | 0 |
-const MOVES: [u32; 4] = [
-    0x556330, // own
-    0x547220, // sibling
-    0x508950, // next
-    0x555550, // other
+// "The moves are one constant table of states against classes": six rows of four, from | own | sibling | next | other. "0 and 5 stay."
+const MOVES: [u8; 24] = [
+    IDLE, // from 0 idle | 0 | 0 | 0 | 0
+    IDLE,
+    IDLE,
+    IDLE,
+    COUNTING, // from 1 fragment not begun | 3 | 2 | 5 | 5
+    WAITING,
+    ERROR,
+    ERROR,
+    COUNTING, // from 2 waiting | 3 | 2 | 0 if any, 5 if all | 5
+    WAITING,
+    IDLE_IF_ANY,
+    ERROR,
+    COUNTING_IF_ROOM, // from 3 counting | 3 if count < v, else 5 | 4 if count ≥ u, else 5 | 0 if count ≥ u, else 5 | 5
+    DONE_IF_ENOUGH,
+    IDLE_IF_ENOUGH,
+    ERROR,
+    ERROR, // from 4 done | 5 | 4 | 0 | 5
+    DONE,
+    IDLE,
+    ERROR,
+    ERROR, // from 5 error | 5 | 5 | 5 | 5
+    ERROR,
+    ERROR,
+    ERROR,
 ];
-
-// The state that an entry of the table says, for a range with bounds u and v in a fragment of this join, where count events of its block have come.
-fn decided(entry: u8, join: u8, count: u16, u: u16, v: u16) -> u8
-    ensures { λ r. ⌜ r ≡ stateNumber (entryState (joinOf join) (bounds u v) count entry) ⌝ }
-{
-    match entry {
-        COUNTING_IF_ROOM => { if count < v { COUNTING } else { ERROR } }
-        DONE_IF_ENOUGH => { if u <= count { DONE } else { ERROR } }
-        IDLE_IF_ENOUGH => { if u <= count { IDLE } else { ERROR } }
-        IDLE_IF_ANY => { if join == ALL { ERROR } else { IDLE } }
-        IDLE..=DONE => entry,
-        _ => ERROR,
-    }
-}
 
 // n, or most where n is above it.
 fn at_most(n: u8, most: u8) -> u8
@@ -68,30 +72,45 @@ fn at_most(n: u8, most: u8) -> u8
     if n < most { n } else { most }
 }
 
-// The column of a class. A class that is known where this is called has a constant for its column: no index is computed.
-fn column(class: u8) -> u32
-    ensures { λ r. ⌜ IsColumn class r ⌝ }
+// The entry of a row of the table for a class. Every number above 3 is *other*.
+fn look_up(row: u8, class: u8) -> u8
+    requires { ⌜ row ≤ 5 ⌝ }
+    ensures { λ r. ⌜ IsEntry row class r ⌝ }
 {
-    if class < OTHER {
-        return MOVES[class as usize];
-    }
-    MOVES[3]
+    MOVES[4 * row as usize + at_most(class, OTHER) as usize]
 }
 
-// The entry of a column for a state. One up to 5 is the state after the event; the others have a condition.
-fn entry(column: u32, state: u8) -> u8
-    ensures { λ r. ⌜ r ≡ entryIn column state ⌝ }
+// The entry for a state and a class. Every number above 5 is an error. An arm has its row as a constant: where the class is one too, the compiler knows the entry, and the table is not
+// written to the stack to be looked up.
+fn entry(state: u8, class: u8) -> u8
+    ensures { λ r. ⌜ IsEntry state class r ⌝ }
 {
-    ((column >> (4 * at_most(state, ERROR))) & 15) as u8
+    match state {
+        IDLE => look_up(IDLE, class),
+        UNBEGUN => look_up(UNBEGUN, class),
+        WAITING => look_up(WAITING, class),
+        COUNTING => look_up(COUNTING, class),
+        DONE => look_up(DONE, class),
+        _ => look_up(ERROR, class),
+    }
+}
+
+// The state that an entry of the table says, for a range with bounds u and v in a fragment of this join, where count events of its block have come. The last arm is `IDLE_IF_ANY`.
+fn decided(entry: u8, join: u8, count: u16, u: u16, v: u16) -> u8
+    ensures { λ r. ⌜ r ≡ stateNumber (entryState (joinOf join) (bounds u v) count entry) ⌝ }
+{
+    match entry {
+        IDLE..=ERROR => entry,
+        COUNTING_IF_ROOM => { if count < v { COUNTING } else { ERROR } }
+        DONE_IF_ENOUGH => { if u <= count { DONE } else { ERROR } }
+        IDLE_IF_ENOUGH => { if u <= count { IDLE } else { ERROR } }
+        _ => { if join == ALL { ERROR } else { IDLE } }
+    }
 }
 
 // The state after an event of a class, for a range with bounds u and v in a fragment of this join, where count events of its block have come.
 pub fn next_state(state: u8, class: u8, join: u8, count: u16, u: u16, v: u16) -> u8
     ensures { λ r. ⌜ r ≡ nextState state class join count u v ⌝ }
 {
-    let e = entry(column(class), state);
-    if e <= 5 {
-        return e;
-    }
-    decided(e, join, count, u, v)
+    decided(entry(state, class), join, count, u, v)
 }
