@@ -21,11 +21,11 @@ use Rattle.pattern.proofs.Fragment.{Checked, start-count}
 use Rattle.pattern.proofs.Keeps.{Erred, stays-erred, held, moves-same, in-moved, after, late-errs, foreign-errs, passing-is, incomplete-errs}
 use Rattle.layout.specs.Layout.{timeOf}
 use Rattle.layout.specs.Pages.{rangeAt}
-use Rattle.tables.specs.Cells.{roleIn, limitAt, cellAt, limitIn, isTimed, roleOf, preceding, Cell, HoldsRule}
+use Rattle.tables.specs.Cells.{limitAt, cellAt, limitIn, isTimed, roleOf, preceding, Cell, HoldsRule}
 use Rattle.deadline.specs.Deadlines.{pastOf, lateOf}
 use Rattle.step.specs.declared.RuleState.{RuleState}
 use Rattle.step.specs.declared.Stepped.{Stepped}
-use Rattle.step.specs.Steps.{brokenOf, beginOf, longerOf, otherOf, passOf, cellIn, actOf}
+use Rattle.step.specs.Steps.{brokenOf, beginOf, longerOf, otherOf, passOf, cellIn, releasedOf, actOf}
 use Rattle.step.specs.Shows.{Counting, Shows, untouched, freed, begun, running}
 use Rattle.step.proofs.Sound.{Sound}
 use Rattle.step.proofs.Indices.{fresh-length, fresh-at, slot-at, range-in}
@@ -81,11 +81,15 @@ module _ {table : List ℕ} {r : ℕ} {rule : Rule} (h : HoldsRule table r rule)
       late-here : lateOf (cellIn table r name) (limitIn (getD table (limitAt r) 0)) (st .end) time ≡ (afterP rule g && not (inTime (rule .kind) (S .end) time))
       late-here = late-is sound g hg (cellIn table r name) (cell-c .role) (limitIn (getD table (limitAt r) 0)) (st .end) time (h .limit) ∙ ap (λ (x : ℕ). afterP rule g && not (inTime (rule .kind) x time)) (w .end)
 
+      -- a rule at a fragment that has begun is not released
+      unreleased : releasedOf table r st ≡ false
+      unreleased = free-is sound (S .fragment) (w .inside) D′ (cell-d .role) ∙ w .unfree
+
       act-is : actOf table r st name time ≡ cond (afterP rule g && not (inTime (rule .kind) (S .end) time)) (brokenOf st) (cond (eqb g (S .fragment)) (cond (eqb name (st .current)) (longerOf C′ st name time) (otherOf C′ D′ st name time)) (passOf C′ D′ st name time))
       unfolding actOf
       act-is =
           let some : st .count ≡ 0 → ⊥ = λ z. omega (arith, z, w .count, w .begun) in
-          rw (ne-eqb (st .count) 0 some, free-is sound (S .fragment) (w .inside) D′ (cell-d .role), w .unfree, late-here, cell-c .fragment, w .fragment)
+          rw (ne-eqb (st .count) 0 some, unreleased, late-here, cell-c .fragment, w .fragment)
 
       -- not of the fragment at which the rule stands
       module _ (away : g ≡ S .fragment → ⊥) where
@@ -268,7 +272,7 @@ module _ {table : List ℕ} {r : ℕ} {rule : Rule} (h : HoldsRule table r rule)
   acts-freed : (st : RuleState) (S : M.RuleState) (name n i : ℕ) → (st .count ≡ 0 → ⊥) → released rule S ≡ true → n < length (roundOf rule) → i < size n → roleOf rule n ≡ 5 → st .current ≡ rangeAt rule n i .name → Linked rule time (actOf table r st name time) (step rule S (record { name = name; time = time }))
   unfolding actOf
   acts-freed st S name n i some free hn hi role e =
-      let is : actOf table r st name time ≡ record { state = st; standing = 0 } = rw (ne-eqb (st .count) 0 some, eq-eqb (roleIn (cellIn table r (st .current))) 5 (cell-of n i (st .current) hn hi e .role ∙ role)) in
+      let is : actOf table r st name time ≡ record { state = st; standing = 0 } = rw (ne-eqb (st .count) 0 some, cell-of n i (st .current) hn hi e .role ∙ role) in
       let same : step rule S (record { name = name; time = time }) ≡ S = rw free in
       let rests : atRest rule S ≡ true = rw free in
       subst (λ (x : Stepped). Linked rule time x (step rule S (record { name = name; time = time }))) (sym is) (subst (λ (x : M.RuleState). Linked rule time (record { state = st; standing = 0 }) x) (sym same) (record {

@@ -1,7 +1,7 @@
 -- One rule over a book's table, in numbers: what the code's functions compute, for every table and every state. For the table of a sheet it is the crate `pattern`'s model (`proofs/Links`
 -- proves that). No promise of an exported call cites it.
 -- Assumes nothing.
-use mathlib.Core.Bool.{cond, _&&_, _||_}
+use mathlib.Core.Bool.{Bool, cond, _&&_, _||_}
 use mathlib.Core.List.{List}
 use Prim.Native.Nat.{ℕ, _+_, _%_}
 use lib.Dec.{eqb}
@@ -65,13 +65,17 @@ passOf c d st name now = cond (eqb (beforeIn c) (st .fragment) && completeOf d (
 abbrev pub cellIn : List ℕ → ℕ → ℕ → ℕ
 cellIn table r name = getD table (cellAt r (name % 64)) 0
 
+-- the rule, to which an event has come, is released: it stands at the trigger of kind 0
+abbrev pub releasedOf : List ℕ → ℕ → RuleState → Bool
+releasedOf table r st = eqb (roleIn (cellIn table r (st .current))) 5
+
 -- an event on one of the rule's names; a count of 0 is that of a rule to which nothing has come
 unfoldable pub actOf : List ℕ → ℕ → RuleState → ℕ → ℕ → Stepped
 actOf table r st name now =
     let c : ℕ = cellIn table r name in
     let d : ℕ = cellIn table r (st .current) in
     cond (eqb (st .count) 0) (cond (eqb (fragmentIn c) 0) (beginOf c name (st .end) now) (brokenOf st))
-    (cond (eqb (roleIn d) 5) (record { state = st; standing = 0 })
+    (cond (releasedOf table r st) (record { state = st; standing = 0 })
     (cond (lateOf c (limitIn (getD table (limitAt r) 0)) (st .end) now) (brokenOf st)
     (cond (eqb (fragmentIn c) (st .fragment)) (cond (eqb name (st .current)) (longerOf c st name now) (otherOf c d st name now))
     (passOf c d st name now))))

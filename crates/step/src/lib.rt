@@ -3,7 +3,7 @@
 // range and of the fragment. A name and a rule's number are reduced by a remainder, so that nothing is asked of them, of the table or of the state.
 ghost use mathlib.Core.Path.{_≡_};
 ghost use Prim.Native.Nat.{_%_};
-ghost use Rattle.step.specs.Steps.{brokenOf, standingOf, stoodOf, beginOf, movedBy, longerOf, otherOf, passOf, cellIn, actOf};
+ghost use Rattle.step.specs.Steps.{brokenOf, standingOf, stoodOf, beginOf, movedBy, longerOf, otherOf, passOf, cellIn, releasedOf, actOf};
 
 // "The monitor's state holds, for each rule, its fragment number, eight recogniser states, one count and the end time of P." Beside them the name whose range counts, by which its cell is
 // found. A count of 0 is that of a rule to which nothing has come.
@@ -170,6 +170,14 @@ fn cell_at(table: &[u64; 1104], rule: usize, name: u8) -> u64
     table[80 + 64 * (rule % 16) + (name % 64) as usize]
 }
 
+// Rule r, to which an event has come, is released: it stands at the trigger of kind 0. The cell is one that `act` looks up too; compiled, that is one look-up.
+fn released(table: &[u64; 1104], r: usize, st: RuleState) -> bool
+    ensures { λ b. ⌜ b ≡ releasedOf (now (table .entry)) (r % 16) st ⌝ }
+{
+    let cell = cell_at(table, r, st.current);
+    tables::role_in(cell) == 5
+}
+
 // An event on one of rule r's names.
 pub fn act(table: &[u64; 1104], r: usize, st: RuleState, name: u8, time: u32) -> Stepped
     ensures { λ s. ⌜ s ≡ actOf (now (table .entry)) (r % 16) st name time ⌝ }
@@ -181,13 +189,13 @@ pub fn act(table: &[u64; 1104], r: usize, st: RuleState, name: u8, time: u32) ->
         }
         return broken(st);
     }
-    let d = cell_at(table, r, st.current);
-    if tables::role_in(d) == 5 {
+    if released(table, r, st) {
         return Stepped {
             state: st,
             standing: 0,
         };
     }
+    let d = cell_at(table, r, st.current);
     let c = cell_at(table, r, name);
     let limit = tables::limit_in(table[64 + r % 16]);
     if deadline::late(c, limit, st.end, time) {
