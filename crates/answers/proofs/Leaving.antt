@@ -3,15 +3,13 @@
 use mathlib.Core.Path.{_≡_, refl, sym, _∙_, ap}
 use mathlib.Core.List.{List}
 use Prim.Native.Nat.{ℕ, _+_, _<_, _≤_}
-use lib.ListN.{getD}
+use lib.ListN.{length, getD}
 use borrow.Author.Tests.{le-leb, lt-leb, le-ltb, lt-ltb, eq-eqb, ne-eqb}
-use Rattle.pattern.specs.Judge.{Verdict}
-use Rattle.pattern.specs.Judge as J
-use Rattle.pattern.proofs.Basics.{zero-one}
 use Rattle.tables.specs.Cells.{maskIn}
-use Rattle.words.specs.Words.{Held, heldBy, rulesIn}
+use Rattle.words.specs.Words.{Held, heldBy, lastWord, rulesIn}
 use Rattle.rules.specs.Pass.{Pass, Passes}
-use Rattle.answers.specs.Observe.{judgedOf, refusedOf, takenOf, lookedOf, observeOf}
+use Rattle.answers.specs.Cases.{valuesOf}
+use Rattle.answers.specs.Observe.{Observed, judgedOf, refusedOf, takenOf, lookedOf, observeOf}
 use Rattle.answers.specs.Leaving.{Judges, Leaves}
 use Rattle.answers.specs.declared.Observation.{Observation}
 use Rattle.answers.specs.declared.Observation.the-variants.{Event, Clock}
@@ -19,37 +17,45 @@ use Rattle.rules.specs.declared.Masks.{Masks}
 use Rattle.answers.specs.declared.Answer.{Answer}
 use Rattle.answers.specs.declared.Answer.the-variants.{Broken, Refused}
 
--- ---- a verdict is no refusal
+-- ---- an observation whose name is right, of a monitor that has not stopped
 
-pub no-refusal : (v : Verdict) (n : ℕ) → J.verdict v ≡ J.refused n → ⊥
-no-refusal v n e = let w : _≡_ {A = ℕ} 0 1 = cc in zero-one w
+pub record Takes (before : List ℕ) (o : Observed) (a : Answer) (after : List ℕ) : Type 0 where
+  long : length before ≡ 34 → length after ≡ 34
+  leaves : length before ≡ 34 → record { monitor = heldBy after; answer = a } ≡ o
+  unchanged : valuesOf a .answer ≡ 3 → after ≡ before
+  spare : length before ≡ 34 → (valuesOf a .answer ≡ 3 → ⊥) → getD after 33 0 ≡ lastWord (heldBy after)
 
--- ---- what the code leaves
+-- a refusal leaves all
+refuses : (before : List ℕ) (o : Observed) (n : ℕ) → o ≡ record { monitor = heldBy before; answer = Refused n } → Takes before o (Refused n) before
+refuses before o n e = record { long = λ l. l; leaves = λ l. sym e; unchanged = λ z. refl; spare = λ l z. absurd (z refl) }
 
 module _ (table before : List ℕ) (concerned name time : ℕ) where
   abbrev m : Held
   m = heldBy before
 
-  pub leaves-early : time < m .latest → Leaves before (takenOf table m concerned name time) (Refused 11) before
+  pub leaves-early : time < m .latest → Takes before (takenOf table m concerned name time) (Refused 11) before
   unfolding takenOf refusedOf
-  leaves-early h = record { long = λ l. l; leaves = λ l. sym (rw (lt-ltb time (m .latest) h)); unchanged = λ n e. refl }
+  leaves-early h = refuses before _ 11 (rw (lt-ltb time (m .latest) h))
 
-  pub leaves-full : m .latest ≤ time → 4294967295 ≤ m .taken → Leaves before (takenOf table m concerned name time) (Refused 13) before
+  pub leaves-full : m .latest ≤ time → 4294967295 ≤ m .taken → Takes before (takenOf table m concerned name time) (Refused 13) before
   unfolding takenOf refusedOf
-  leaves-full h g = record { long = λ l. l; leaves = λ l. sym (rw (le-ltb time (m .latest) h, le-leb 4294967295 (m .taken) g)); unchanged = λ n e. refl }
+  leaves-full h g = refuses before _ 13 (rw (le-ltb time (m .latest) h, le-leb 4294967295 (m .taken) g))
 
   pub leaves-taken : m .latest ≤ time → m .taken < 4294967295 → (opens dues k : ℕ) → opens ≡ m .mask → dues ≡ m .dues → k ≡ m .taken + 1
       → (p : Masks) (between : List ℕ) → Passes table concerned opens dues name time before p between
       → (a : Answer) (after : List ℕ) → Judges between (judgedOf (record { rules = rulesIn between; broken = p .broken; opens = p .opens; dues = p .dues }) k time) a after
-      → Leaves before (takenOf table m concerned name time) a after
+      → Takes before (takenOf table m concerned name time) a after
   unfolding takenOf
   leaves-taken h g opens dues k eo ed ek p between passes a after judges = record {
     long = λ l. judges .long (passes .long l);
     leaves = λ l.
         judges .leaves (passes .long l) ∙ ap (λ (x : Pass). judgedOf x k time) (passes .passes l)
         ∙ rw (eo, ed, ek, le-ltb time (m .latest) h, lt-leb 4294967295 (m .taken) g);
-    unchanged = λ n e. absurd (judges .taken n e);
+    unchanged = λ z. absurd (judges .taken z);
+    spare = λ l z. judges .spare (passes .long l);
   }
+
+-- ---- any observation
 
 module _ (table before : List ℕ) where
   abbrev m′ : Held
@@ -60,23 +66,30 @@ module _ (table before : List ℕ) where
   leaves-stopped o h k mask ek em = record {
     long = λ l. l;
     leaves = λ l. rw (ek, em) (sym (rw (eq-eqb (m′ .verdict) 2 h)));
-    unchanged = λ n e. absurd (no-refusal _ n e);
+    unchanged = λ z. refl;
+    stopped = λ z. refl;
+    spare = λ l z. absurd (z h);
   }
 
   module _ (running′ : m′ .verdict ≡ 2 → ⊥) (time : ℕ) where
-    pub leaves-unnamed : (name : ℕ) → 64 ≤ name → Leaves before (observeOf table m′ (Event name time)) (Refused 12) before
-    unfolding observeOf lookedOf refusedOf
-    leaves-unnamed name h = record { long = λ l. l; leaves = λ l. sym (rw (ne-eqb (m′ .verdict) 2 running′, le-leb 64 name h)); unchanged = λ n e. refl }
-
-    pub leaves-named : (name : ℕ) → name < 64 → {concerned : ℕ} → concerned ≡ maskIn (getD table name 0) → {a : Answer} {after : List ℕ} → Leaves before (takenOf table m′ concerned name time) a after
-        → Leaves before (observeOf table m′ (Event name time)) a after
-    unfolding observeOf lookedOf
-    leaves-named name h mask l = record {
-      long = l .long;
-      leaves = λ e. l .leaves e ∙ rw mask (sym (rw (ne-eqb (m′ .verdict) 2 running′, lt-leb 64 name h)));
-      unchanged = l .unchanged;
+    goes-on : {o p : Observed} {a : Answer} {after : List ℕ} → o ≡ p → Takes before o a after → Leaves before p a after
+    goes-on e t = record {
+      long = t .long;
+      leaves = λ l. t .leaves l ∙ e;
+      unchanged = t .unchanged;
+      stopped = λ z. absurd (running′ z);
+      spare = λ l z. t .spare l;
     }
 
-    pub leaves-clock : {a : Answer} {after : List ℕ} → Leaves before (takenOf table m′ 0 0 time) a after → Leaves before (observeOf table m′ (Clock time)) a after
+    pub leaves-unnamed : (name : ℕ) → 64 ≤ name → Leaves before (observeOf table m′ (Event name time)) (Refused 12) before
+    unfolding observeOf lookedOf refusedOf
+    leaves-unnamed name h = goes-on refl (refuses before _ 12 (rw (ne-eqb (m′ .verdict) 2 running′, le-leb 64 name h)))
+
+    pub leaves-named : (name : ℕ) → name < 64 → {concerned : ℕ} → concerned ≡ maskIn (getD table name 0) → {a : Answer} {after : List ℕ} → Takes before (takenOf table m′ concerned name time) a after
+        → Leaves before (observeOf table m′ (Event name time)) a after
     unfolding observeOf lookedOf
-    leaves-clock l = record { long = l .long; leaves = λ e. l .leaves e ∙ sym (rw (ne-eqb (m′ .verdict) 2 running′)); unchanged = l .unchanged }
+    leaves-named name h mask = goes-on (rw mask (sym (rw (ne-eqb (m′ .verdict) 2 running′, lt-leb 64 name h))))
+
+    pub leaves-clock : {a : Answer} {after : List ℕ} → Takes before (takenOf table m′ 0 0 time) a after → Leaves before (observeOf table m′ (Clock time)) a after
+    unfolding observeOf lookedOf
+    leaves-clock = goes-on (sym (rw (ne-eqb (m′ .verdict) 2 running′)))

@@ -1,7 +1,7 @@
--- The judge's value for each case of an observation and of an answer.
+-- Document 01's values for each case of an answer, and the judge's observation for each case of an observation.
 -- Assumes nothing.
-use Rattle.pattern.specs.Judge.{allWhole, someOpen, brokenAt}
 use Rattle.pattern.specs.Judge as J
+use Rattle.pattern.specs.Values.{Values}
 use Rattle.answers.specs.declared.Observation.{Observation}
 use Rattle.answers.specs.declared.Observation.the-variants.{Event, Clock}
 use Rattle.answers.specs.declared.Answer.{Answer}
@@ -11,8 +11,9 @@ abbrev pub seen : Observation → J.Observation
 seen (Event name time) = J.event name time
 seen (Clock time) = J.clock time
 
-abbrev pub said : Answer → J.Answer
-said Whole = J.verdict allWhole
-said (Open m) = J.verdict (someOpen m)
-said (Broken k m) = J.verdict (brokenAt k m)
-said (Refused n) = J.refused n
+-- "answer (0 whole, 1 open, 2 broken, 3 refused); refusal number or 0; mask (u16); .. place (u32)"; "Place is k for broken"
+abbrev pub valuesOf : Answer → Values
+valuesOf Whole = record { answer = 0; refusal = 0; mask = 0; place = 0 }
+valuesOf (Open m) = record { answer = 1; refusal = 0; mask = m; place = 0 }
+valuesOf (Broken k m) = record { answer = 2; refusal = 0; mask = m; place = k }
+valuesOf (Refused n) = record { answer = 3; refusal = n; mask = 0; place = 0 }

@@ -1,3 +1,4 @@
 pub mod Cases
 pub mod Observe
 pub mod Leaving
+pub mod Every

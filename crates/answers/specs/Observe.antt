@@ -1,6 +1,6 @@
 -- One observation of a book's monitor, over the book's table.
 -- Assumes nothing.
-use mathlib.Core.Bool.{cond}
+use mathlib.Core.Bool.{Bool, true, false, cond}
 use mathlib.Core.List.{List}
 use Prim.Native.Nat.{ℕ, _+_}
 use lib.Dec.{leb, ltb, eqb}
@@ -18,14 +18,14 @@ pub record Observed : Type 0 where
   pub monitor : Held
   pub answer : Answer
 
--- the verdict of a pass over the rules, at the k-th observation taken
+-- the verdict of a pass over the rules, at the k-th observation taken: by whether no rule broke, and whether none is open
+abbrev pub judgedBy : Bool → Bool → Pass → ℕ → ℕ → Observed
+judgedBy true true p k time = record { monitor = record { rules = p .rules; taken = k; latest = time; verdict = 0; mask = 0; dues = p .dues }; answer = Whole }
+judgedBy true false p k time = record { monitor = record { rules = p .rules; taken = k; latest = time; verdict = 1; mask = p .opens; dues = p .dues }; answer = Open (p .opens) }
+judgedBy false y p k time = record { monitor = record { rules = p .rules; taken = k; latest = time; verdict = 2; mask = p .broken; dues = p .dues }; answer = Broken k (p .broken) }
+
 unfoldable pub judgedOf : Pass → ℕ → ℕ → Observed
-judgedOf p k time =
-    cond (eqb (p .broken) 0)
-    (cond (eqb (p .opens) 0)
-    (record { monitor = record { rules = p .rules; taken = k; latest = time; verdict = 0; mask = 0; dues = p .dues }; answer = Whole })
-    (record { monitor = record { rules = p .rules; taken = k; latest = time; verdict = 1; mask = p .opens; dues = p .dues }; answer = Open (p .opens) }))
-    (record { monitor = record { rules = p .rules; taken = k; latest = time; verdict = 2; mask = p .broken; dues = p .dues }; answer = Broken k (p .broken) })
+judgedOf p k time = judgedBy (eqb (p .broken) 0) (eqb (p .opens) 0) p k time
 
 unfoldable pub refusedOf : Held → ℕ → Observed
 refusedOf m n = record { monitor = m; answer = Refused n }

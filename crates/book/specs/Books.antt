@@ -5,7 +5,7 @@ use mathlib.Core.List.{List}
 use Prim.Native.Nat.{ℕ}
 use Rattle.layout.specs.Layout.{Sheet, version}
 use Rattle.layout.specs.Reading.{accepted, readSheet}
-use Rattle.sheet.specs.Answers.{answerOf, pagesOf}
+use Rattle.sheet.specs.Answers.{valuesOf, readValues, pagesOf}
 use Rattle.sheet.specs.declared.Pages.{Pages}
 use Rattle.book.specs.Tables.{tableOf}
 use Rattle.book.specs.declared.Book.{Book}
@@ -29,5 +29,5 @@ bookOf S = bookFrom (pagesOf S)
 
 -- what translating these bytes promises: the reader's answer, and for an accepted sheet its book. The book that comes with a refusal is the program's choice
 pub record Translates (s : List ℕ) (r : Translation) : Type 0 where
-  pub answers : r .answer ≡ answerOf (readSheet s)
+  pub answers : valuesOf (r .answer) ≡ readValues (readSheet s)
   pub keeps : (S : Sheet) → readSheet s ≡ accepted S → r .book ≡ bookOf S

@@ -12,13 +12,13 @@ use Rattle.pattern.proofs.Oracle.{modelOracle, right-oracle}
 use Rattle.layout.specs.Layout.{Sheet, Bytes}
 use Rattle.layout.specs.Reading.{accepted, refused, readSheet}
 use Rattle.layout.specs.Reading as R
-use Rattle.sheet.specs.Answers.{answerOf}
+use Rattle.sheet.proofs.Cases.{answerOf}
 use Rattle.sheet.specs.declared.Answer.the-variants.{Refused}
 use Rattle.sheet.proofs.Answer.{the-type}
 use Rattle.layout.proofs.Acceptance.{accepted-is-encoded}
 use Rattle.book.specs.Books.{Translates}
 use Rattle.book.specs.declared.Translation.{Translation}
-use Rattle.book.proofs.Translated.{translated}
+use Rattle.book.proofs.Translated.{answered, translated}
 use Rattle.layout.proofs.Accepted.{accepted-rules}
 use Rattle.runner.specs.declared.Outcome.{Outcome}
 use Rattle.runner.specs.Log.{turnedAway}
@@ -49,18 +49,18 @@ module _ (sheet : List ℕ) (bytes : Bytes sheet) where
 
   module _ (t : Translation) (translates : Translates sheet t) (log : List ℕ) (budget : ℕ) (r : Outcome) where
     pub sheet-refused : {number place : ℕ} → t .answer ≡ Refused number place → r ≡ turnedAway number place → Outcomes sheet log budget r
-    sheet-refused {number} {place} e is oracle judging = look (readSheet sheet) (sym e ∙ translates .answers)
+    sheet-refused {number} {place} e is oracle judging = look (readSheet sheet) (sym e ∙ answered sheet t translates)
       where
         look : (x : R.Outcome) → Refused number place ≡ answerOf x → r ≡ outcomeBy oracle x log budget
         look (accepted S) p = absurd (let z : _≡_ {A = ℕ} 0 1 = cc p in omega arith)
         look (refused k q) p = is ∙ ap₂ turnedAway (cc p) (cc p)
 
     pub sheet-accepted : tagOf the-type (t .answer) ≡ 0 → Runs (t .book .table) log budget r → Outcomes sheet log budget r
-    sheet-accepted e runs oracle judging = look (readSheet sheet) refl (sym e ∙ ap (tagOf the-type) (translates .answers))
+    sheet-accepted e runs oracle judging = look (readSheet sheet) refl (sym e ∙ ap (tagOf the-type) (answered sheet t translates))
       where
         look : (x : R.Outcome) → readSheet sheet ≡ x → 0 ≡ tagOf the-type (answerOf x) → r ≡ outcomeBy oracle x log budget
         look (accepted S) f p =
-            runs S (t .book) (accepted-is-encoded sheet bytes f .formed) (translated sheet t bytes translates S f) refl oracle (judging S f)
+            runs .judged S (t .book) (accepted-is-encoded sheet bytes f .formed) (translated sheet t bytes translates S f) refl oracle (judging S f)
         look (refused k q) f p = absurd (omega arith)
 
 -- ---- the call

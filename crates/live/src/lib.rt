@@ -1,10 +1,10 @@
 // A live session for C hosts (document 01, "Observing"): "The host's session keeps one monitor, lent to the guard and changed in place". The host lends the book's table, which opening
 // writes and nothing else changes, and the monitor's 34 words. An answer is one number (crate `replies`).
 ghost use mathlib.Core.Path.{_≡_};
-ghost use Rattle.pattern.specs.Judge.{event, clock};
 ghost use Rattle.words.specs.Words.{heldBy};
-ghost use Rattle.monitor.specs.Promise.{Freshes};
-ghost use Rattle.live.specs.Live.{OpensLent, NotesLent, verdictIs};
+ghost use Rattle.answers.specs.declared.Observation.the-variants.{Event, Clock};
+ghost use Rattle.monitor.specs.Promise.{inWords, Freshes};
+ghost use Rattle.live.specs.Live.{Opens, Notes, verdictIs};
 
 // Reads a sheet into the table of its book and makes a fresh monitor; 0. Or the sheet's refusal and its place: then neither is changed.
 #[no_mangle]
@@ -13,7 +13,7 @@ pub extern "C" fn guard_lent_open(
     book: &mut [u64; 1104],
     monitor: &mut [u64; 34],
 ) -> u64
-    ensures { λ r. ⌜ OpensLent (now (sheet .entry)) (record { table = now (book .entry); monitor = now (monitor .entry) }) r (record { table = now (book .exit); monitor = now (monitor .exit) }) ⌝ }
+    ensures { λ r. ⌜ Opens (now (sheet .entry)) (record { table = now (book .entry); monitor = now (monitor .entry) }) r (record { table = now (book .exit); monitor = now (monitor .exit) }) ⌝ }
 {
     let t = book::translate(sheet);
     let answer = t.answer;
@@ -36,7 +36,7 @@ pub extern "C" fn guard_lent_open(
 // Makes the monitor a fresh one, for whatever book.
 #[no_mangle]
 pub extern "C" fn guard_lent_start(monitor: &mut [u64; 34])
-    ensures { λ _. ⌜ Freshes (now (monitor .exit)) ⌝ }
+    ensures { λ _. ⌜ Freshes inWords (now (monitor .exit)) ⌝ }
 {
     let first = monitor::fresh();
     *monitor = first;
@@ -50,7 +50,7 @@ pub extern "C" fn guard_lent_event(
     name: u32,
     time: u32,
 ) -> u64
-    ensures { λ r. ⌜ NotesLent (now (book .entry)) (now (monitor .entry)) (event name time) r (now (monitor .exit)) ⌝ }
+    ensures { λ r. ⌜ Notes (now (book .entry)) (now (monitor .entry)) (Event name time) r (now (monitor .exit)) ⌝ }
 {
     let a = monitor::note(book, monitor, name, time);
     replies::answer_word(a)
@@ -59,7 +59,7 @@ pub extern "C" fn guard_lent_event(
 // One clock reading.
 #[no_mangle]
 pub extern "C" fn guard_lent_clock(book: &[u64; 1104], monitor: &mut [u64; 34], time: u32) -> u64
-    ensures { λ r. ⌜ NotesLent (now (book .entry)) (now (monitor .entry)) (clock time) r (now (monitor .exit)) ⌝ }
+    ensures { λ r. ⌜ Notes (now (book .entry)) (now (monitor .entry)) (Clock time) r (now (monitor .exit)) ⌝ }
 {
     let a = monitor::tick(book, monitor, time);
     replies::answer_word(a)

@@ -14,6 +14,7 @@ use Rattle.pattern.specs.Lists.{Each}
 use Rattle.pattern.specs.Meaning.{Rule, Status, whole, WellFormed}
 use Rattle.pattern.specs.Judge.{Oracle, Right, mask, Kept, nothing, judge, judgeAnswers, judgeKeeps}
 use Rattle.pattern.specs.Judge as J
+use Rattle.pattern.specs.Values.{Values, answerValues}
 use Rattle.pattern.specs.Model.{statuses, statusAt, atRest, freshMonitor, fresh}
 use Rattle.pattern.specs.Model as M
 use Rattle.pattern.proofs.Basics.{is-true}
@@ -27,15 +28,14 @@ use Rattle.layout.proofs.Acceptance.{accepted-is-encoded}
 use Rattle.layout.proofs.Accepted.{rules-formed}
 use Rattle.tables.specs.Cells.{isTimed}
 use Rattle.book.specs.Books.{Translates}
-use Rattle.book.specs.Looks.{Looks}
 use Rattle.book.specs.declared.Book.{Book}
 use Rattle.book.specs.declared.Translation.{Translation}
 use Rattle.book.proofs.Translated.{translated}
 use Rattle.step.specs.declared.RuleState.{RuleState}
 use Rattle.step.specs.Shows.{untouched, running}
-use Rattle.words.specs.Words.{noState, Held, heldBy, Holds}
+use Rattle.words.specs.Words.{noState, Held, lastWord, Holds}
 use Rattle.opening.specs.Fresh.{freshState, freshHeld}
-use Rattle.monitor.specs.Promise.{said, seen, verdictIn, noModel, modelAt, Represents, Tracks, Follows, Observes, Freshes, Run, done, more, CodeAgreement}
+use Rattle.monitor.specs.Promise.{seen, valuesOf, verdictIn, noModel, modelAt, Represents, Tracks, Form, inWords, Follows, Observes, Freshes, Run, done, more, CodeAgreement}
 use Rattle.answers.specs.declared.Observation.{Observation}
 use Rattle.answers.specs.declared.Answer.{Answer}
 use Rattle.monitor.proofs.Holding.{rule-formed}
@@ -86,16 +86,20 @@ module _ (S : Sheet) (formed : WellFormedSheet S) where
   }
 
 -- what the code's fresh monitor promises follows from what its words hold
-pub fresh-promise : (m : List ℕ) → Holds m freshHeld → Freshes m
-fresh-promise m h S b formed looks = record {
-  long = h .long;
-  tracks = record {
-    formed = formed;
-    looks = looks;
-    falls = tt;
-    model = freshMonitor (S .rules);
-    follows = fresh-follows (S .rules);
-    represents = subst (Represents (S .rules) (freshMonitor (S .rules))) (sym (h .held)) (fresh-represents S formed);
+pub fresh-promise : (m : List ℕ) → Holds m freshHeld → Freshes inWords m
+fresh-promise m h = record {
+  holds = h .held;
+  blank = h .spare ∙ ap lastWord (sym (h .held));
+  follows = λ S b formed looks. record {
+    fits = h .long;
+    tracks = record {
+      formed = formed;
+      looks = looks;
+      falls = tt;
+      model = freshMonitor (S .rules);
+      follows = fresh-follows (S .rules);
+      represents = subst (Represents (S .rules) (freshMonitor (S .rules))) (sym (h .held)) (fresh-represents S formed);
+    };
   };
 }
 
@@ -107,54 +111,37 @@ tracks-taken S k b m t = t .represents .count ∙ t .follows .taken
 pub tracks-verdict : (S : Sheet) (k : Kept) (b : Book) (m : Held) → Tracks S k b m → verdictIn m ≡ k .verdict
 tracks-verdict S k b m t = t .represents .verdict′ ∙ t .follows .verdict
 
--- the same of the words that hold it
-pub follows-taken : (S : Sheet) (k : Kept) (b : Book) (m : List ℕ) → Follows S k b m → heldBy m .taken ≡ length (k .taken)
-follows-taken S k b m f = tracks-taken S k b (heldBy m) (f .tracks)
+-- ---- the whole list
 
-pub follows-verdict : (S : Sheet) (k : Kept) (b : Book) (m : List ℕ) → Follows S k b m → verdictIn (heldBy m) ≡ k .verdict
-follows-verdict S k b m f = tracks-verdict S k b (heldBy m) (f .tracks)
+module _ {X : Type 0} (F : Form X) (table : List ℕ) (b : Book) (lent : b .table ≡ table) (S : Sheet) (oracle : Oracle) (right : Right (S .rules) oracle) where
+  record Along (k : Kept) (os : List Observation) (as′ : List Answer) (last : X) : Type 0 where
+    answered : map valuesOf as′ ≡ map answerValues (judgeAnswers oracle k (map seen os))
+    follows : Follows F S (judgeKeeps oracle k (map seen os)) b last
 
--- ---- the whole list, for every form of the call: F says that a monitor follows what the judge keeps, and each call goes on from there
-
-module _ {X : Type 0} (Call : X → Observation → Answer → X → Type 0) (F : Kept → X → Type 0) (oracle : Oracle)
-    (answers : (m next : X) (o : Observation) (a : Answer) → Call m o a next → (k : Kept) → F k m → said a ≡ judge oracle k (seen o) .answer)
-    (follows : (m next : X) (o : Observation) (a : Answer) → Call m o a next → (k : Kept) → F k m → F (judge oracle k (seen o) .kept) next) where
-  pub record Along (k : Kept) (os : List Observation) (as′ : List Answer) (last : X) : Type 0 where
-    pub answered : map said as′ ≡ judgeAnswers oracle k (map seen os)
-    pub follows′ : F (judgeKeeps oracle k (map seen os)) last
-
-  pub along : {m last : X} {os : List Observation} {as′ : List Answer} → Run Call m os as′ last → (k : Kept) → F k m → Along k os as′ last
-  along done k f = record { answered = refl; follows′ = f }
+  along : {m last : X} {os : List Observation} {as′ : List Answer} → Run (Observes F table) m os as′ last → (k : Kept) → Follows F S k b m → Along k os as′ last
+  along done k f = record { answered = refl; follows = f }
   along (more {o = o} c run) k f =
-      let a = along run (judge oracle k (seen o) .kept) (follows _ _ _ _ c k f) in
-      record { answered = ap₂ (λ (x : J.Answer) (l : List J.Answer). x ∷ l) (answers _ _ _ _ c k f) (a .answered); follows′ = a .follows′ }
+      let a = along run (judge oracle k (seen o) .kept) (c .follows b lent S k f oracle right) in
+      record { answered = ap₂ (λ (x : Values) (l : List Values). x ∷ l) (c .answers b lent S k f oracle right) (a .answered); follows = a .follows }
 
--- for every accepted sheet's bytes: a run whose calls keep F, where F says that the numbers follow, agrees
+-- from a monitor that follows the judge who has kept nothing
+pub agrees-from : {X : Type 0} (F : Form X) (b : Book) (S : Sheet) → WellFormedSheet S → (m : X) → Follows F S nothing b m
+    → {os : List Observation} {as′ : List Answer} {last : X} → Run (Observes F (b .table)) m os as′ last → CodeAgreement S os as′ (F .held last)
+agrees-from F b S formed m f {os} {as′} {last} run = record {
+  judged = (modelOracle (S .rules), right-oracle (S .rules) (rules-formed S formed .each));
+  agrees = λ oracle right.
+      (let a = along F (b .table) b refl S oracle right run nothing f in
+      record {
+        answered = a .answered;
+        taken = tracks-taken S (judgeKeeps oracle nothing (map seen os)) b (F .held last) (a .follows .tracks);
+        verdict = tracks-verdict S (judgeKeeps oracle nothing (map seen os)) b (F .held last) (a .follows .tracks);
+      });
+}
+
+-- for every accepted sheet's bytes, every form of a monitor and every list of observations: what reading, translating, opening and observing one after the other answers is what the judge
+-- answers
 module _ (bytes : List ℕ) (are : Bytes bytes) (t : Translation) (translates : Translates bytes t) (S : Sheet) (is : readSheet bytes ≡ accepted S) where
-  pub formed : WellFormedSheet S
-  formed = accepted-is-encoded bytes are is .formed
-
-  pub looks : Looks S (t .book)
-  looks = translated bytes t are translates S is
-
-  pub agreed : {X : Type 0} {os : List Observation} {as′ : List Answer} {last : X} (held : X → Held) (Call : X → Observation → Answer → X → Type 0) (F : Kept → X → Type 0)
-      → ((k : Kept) (m : X) → F k m → Tracks S k (t .book) (held m))
-      → ((oracle : Oracle) → Right (S .rules) oracle → (m next : X) (o : Observation) (a : Answer) → Call m o a next → (k : Kept) → F k m → said a ≡ judge oracle k (seen o) .answer)
-      → ((oracle : Oracle) → Right (S .rules) oracle → (m next : X) (o : Observation) (a : Answer) → Call m o a next → (k : Kept) → F k m → F (judge oracle k (seen o) .kept) next)
-      → (m : X) → F nothing m → Run Call m os as′ last → CodeAgreement S os as′ (held last)
-  agreed {X} {os} {as′} {last} held Call F tracks answers follows m f run = record {
-    judged = (modelOracle (S .rules), right-oracle (S .rules) (rules-formed S formed .each));
-    agrees = λ oracle right.
-        (let a = along Call F oracle (answers oracle right) (follows oracle right) run nothing f in
-        record {
-          answered = a .answered;
-          taken = tracks-taken S (judgeKeeps oracle nothing (map seen os)) (t .book) (held last) (tracks _ _ (a .follows′));
-          verdict = tracks-verdict S (judgeKeeps oracle nothing (map seen os)) (t .book) (held last) (tracks _ _ (a .follows′));
-        });
-  }
-
-  -- for every list of observations: what reading, translating, opening and observing one after the other answers is what the judge answers; in words that are changed in place
-  pub agreement : (m : List ℕ) → Freshes m → (os : List Observation) (as′ : List Answer) (last : List ℕ) → Run (Observes (t .book)) m os as′ last → CodeAgreement S os as′ (heldBy last)
-  agreement m freshes os as′ last =
-      agreed heldBy (Observes (t .book)) (λ k w. Follows S k (t .book) w) (λ k w f. f .tracks) (λ oracle right w next o a c k f. c .answers S k f oracle right) (λ oracle right w next o a c k f. c .follows S k f oracle right)
-      m (freshes S (t .book) formed looks)
+  pub agreement : {X : Type 0} (F : Form X) (m : X) → Freshes F m → (os : List Observation) (as′ : List Answer) (last : X) → Run (Observes F (t .book .table)) m os as′ last → CodeAgreement S os as′ (F .held last)
+  agreement F m fresh os as′ last =
+      let formed : WellFormedSheet S = accepted-is-encoded bytes are is .formed in
+      agrees-from F (t .book) S formed m (fresh .follows S (t .book) formed (translated bytes t are translates S is))

@@ -15,6 +15,7 @@ use Rattle.pattern.specs.Lists.{isIn}
 use Rattle.pattern.specs.Meaning.{Rule, namesOf, Status, broken, whole}
 use Rattle.pattern.specs.Judge.{Oracle, Right, Verdict, allWhole, someOpen, brokenAt, verdictOf, mask, Kept, refusal, judge}
 use Rattle.pattern.specs.Judge as J
+use Rattle.pattern.specs.Values.{verdictValues, answerValues}
 use Rattle.pattern.specs.Model.{statusAt, statuses, afterAll, take, orRefuse, orStopped, observe}
 use Rattle.pattern.specs.Model as M
 use Rattle.pattern.proofs.Basics.{zero-one}
@@ -31,45 +32,21 @@ use Rattle.tables.specs.Cells.{maskIn}
 use Rattle.step.specs.Shows.{running}
 use Rattle.words.specs.Words.{Held, heldBy}
 use Rattle.rules.specs.Pass.{Pass, passOf}
-use Rattle.answers.specs.Observe.{Observed, judgedOf, refusedOf, takenOf, lookedOf, observeOf}
+use Rattle.answers.specs.Observe.{Observed, judgedBy, judgedOf, refusedOf, takenOf, lookedOf, observeOf}
 use Rattle.answers.specs.Leaving.{Leaves}
-use Rattle.monitor.specs.Promise.{said, seen, verdictIn, noModel, modelAt, Represents, Tracks, Follows, Observes, ObservesLent}
+use Rattle.answers.proofs.Verdicts.{judged-says}
+use Rattle.monitor.specs.Promise.{seen, valuesOf, verdictIn, noModel, modelAt, Represents, Tracks, inWords, Observes}
 use Rattle.answers.specs.declared.Observation.{Observation}
 use Rattle.answers.specs.declared.Observation.the-variants.{Event, Clock}
 use Rattle.answers.specs.declared.Answer.{Answer}
-use Rattle.answers.specs.declared.Answer.the-variants.{Whole, Open, Broken, Refused}
+use Rattle.answers.specs.declared.Answer.the-variants.{Broken, Refused}
 use Rattle.monitor.proofs.Holding.{rule-sound}
 use Rattle.monitor.proofs.Taking.{status-at, statuses-length, after-length, pass-sixteen, pass-shows, pass-broken, pass-open, pass-due}
-
--- ---- the verdict of a pass is the judge's
-
--- by whether a mask is empty
-abbrev judgedBy : Bool → Bool → Pass → ℕ → ℕ → Observed
-judgedBy true true p k time = record { monitor = record { rules = p .rules; taken = k; latest = time; verdict = 0; mask = 0; dues = p .dues }; answer = Whole }
-judgedBy true false p k time = record { monitor = record { rules = p .rules; taken = k; latest = time; verdict = 1; mask = p .opens; dues = p .dues }; answer = Open (p .opens) }
-judgedBy false y p k time = record { monitor = record { rules = p .rules; taken = k; latest = time; verdict = 2; mask = p .broken; dues = p .dues }; answer = Broken k (p .broken) }
-
-judged-is : (p : Pass) (k time : ℕ) → judgedOf p k time ≡ judgedBy (eqb (p .broken) 0) (eqb (p .opens) 0) p k time
-unfolding judgedOf
-judged-is p k time = look (eqb (p .broken) 0) (eqb (p .opens) 0)
-  where
-    look : (x y : Bool) → cond {A = Observed} x (cond y (judgedBy true true p k time) (judgedBy true false p k time)) (judgedBy false true p k time) ≡ judgedBy x y p k time
-    look true true = refl
-    look true false = refl
-    look false y = refl
-
-says : (p : Pass) (k time : ℕ) (ss : List Status) → p .broken ≡ mask J.isBroken ss → p .opens ≡ mask J.isOpen ss → said (judgedOf p k time .answer) ≡ J.verdict (verdictOf k ss)
-says p k time ss b o = ap (λ (r : Observed). said (r .answer)) (judged-is p k time) ∙ look (eqb (p .broken) 0) (eqb (p .opens) 0) ∙ rw (b, o)
-  where
-    look : (x y : Bool) → said (judgedBy x y p k time .answer) ≡ J.verdict (cond x (cond y allWhole (someOpen (p .opens))) (brokenAt k (p .broken)))
-    look true true = refl
-    look true false = refl
-    look false y = refl
 
 -- ---- a monitor and the model's monitor take one observation alike
 
 pub record Alike (rules : List Rule) (reply : M.Reply) (r : Observed) : Type 0 where
-  pub answer : said (r .answer) ≡ reply .answer
+  pub answer : valuesOf (r .answer) ≡ answerValues (reply .answer)
   pub represents : Represents rules (reply .monitor) (r .monitor)
 
 module _ (S : Sheet) (formed : WellFormedSheet S) (b : Book) (looks : Looks S b) where
@@ -142,7 +119,8 @@ module _ (S : Sheet) (formed : WellFormedSheet S) (b : Book) (looks : Looks S b)
 
       -- the monitor that the pass gives
       represents : Represents (S .rules) (take (S .rules) model o) (judgedOf P (m .taken + 1) time .monitor)
-      represents = subst (λ (x : Observed). Represents (S .rules) (take (S .rules) model o) (x .monitor)) (sym (judged-is P (m .taken + 1) time)) (look (eqb (P .broken) 0) refl (eqb (P .opens) 0) refl)
+      unfolding judgedOf
+      represents = look (eqb (P .broken) 0) refl (eqb (P .opens) 0) refl
         where
           verdict-by : (x y : Bool) → eqb (P .broken) 0 ≡ x → eqb (P .opens) 0 ≡ y → verdictOf (suc (model .taken)) ss ≡ cond x (cond y allWhole (someOpen (P .opens))) (brokenAt (suc (model .taken)) (P .broken))
           verdict-by x y q q′ = rw (← broken-mask, ← open-mask, q, q′)
@@ -153,7 +131,7 @@ module _ (S : Sheet) (formed : WellFormedSheet S) (b : Book) (looks : Looks S b)
           look false q y q′ = makes 2 (P .broken) (P .dues) (ap (λ (n : ℕ). brokenAt n (P .broken)) taken-is ∙ sym (verdict-by false y q q′)) (λ z. (let w : _≡_ {A = ℕ} 0 1 = cc in absurd (zero-one w))) (λ z. (let w : _≡_ {A = ℕ} 0 1 = cc in absurd (zero-one w))) (λ z. (let w : _≡_ {A = ℕ} 0 1 = cc in absurd (zero-one w)))
 
       takes : Alike (S .rules) (orRefuse (S .rules) model o none) (judgedOf P (m .taken + 1) time)
-      takes = record { answer = says P (m .taken + 1) time ss broken-mask open-mask ∙ ap (λ (n : ℕ). J.verdict (verdictOf n ss)) taken-is ∙ ap J.verdict (sym verdict-is); represents = represents }
+      takes = record { answer = judged-says P (m .taken + 1) time ss broken-mask open-mask ∙ ap (λ (n : ℕ). verdictValues (verdictOf n ss)) taken-is ∙ ap verdictValues (sym verdict-is); represents = represents }
 
     -- an observation whose name is right: 11, 13, or taken
     module _ (o : J.Observation) (concerned name time : ℕ) (when : J.timeOf o ≡ time) (good : J.badName o ≡ false) (own : ℕ → Bool) (named : (r : ℕ) → r < length (S .rules) → own r ≡ true → T (isIn name (namesOf (ruleAt (S .rules) r)))) (concern-is : (r : ℕ) → member concerned r ≡ (ltb r (length (S .rules)) && own r))
@@ -207,8 +185,8 @@ module _ (S : Sheet) (k : Kept) (b : Book) (m : Held) (f : Tracks S k b m) (o : 
   both : Alike (S .rules) (observe (S .rules) (f .model) (seen o)) (observeOf (b .table) m o)
   both = alike S (f .formed) b (f .looks) (f .model) m (f .represents) o
 
-  pub observe-answers : said (r .answer) ≡ judge oracle k (seen o) .answer
-  observe-answers = both .answer ∙ together (S .rules) k (f .model) (f .follows) (seen o) .answer ∙ ap (λ (t : J.Turn). t .answer) turn-is
+  pub observe-answers : valuesOf (r .answer) ≡ answerValues (judge oracle k (seen o) .answer)
+  observe-answers = both .answer ∙ ap answerValues (together (S .rules) k (f .model) (f .follows) (seen o) .answer ∙ ap (λ (t : J.Turn). t .answer) turn-is)
 
   pub observe-follows : Tracks S (judge oracle k (seen o) .kept) b (r .monitor)
   observe-follows = record {
@@ -223,17 +201,17 @@ module _ (S : Sheet) (k : Kept) (b : Book) (m : Held) (f : Tracks S k b m) (o : 
 -- ---- the code
 
 -- what the code's observing promises follows from what it leaves
-promise : (b : Book) (before : List ℕ) (o : Observation) (a : Answer) (after : List ℕ)
-    → Leaves before (observeOf (b .table) (heldBy before) o) a after → Observes b before o a after
-promise b before o a after l = record {
-  answers = λ S k f oracle right. ap (λ (x : Observed). said (x .answer)) (l .leaves (f .long)) ∙ observe-answers S k b (heldBy before) (f .tracks) o oracle right;
-  follows = λ S k f oracle right. record {
-    long = l .long (f .long);
-    tracks = subst (λ (x : Observed). Tracks S (judge oracle k (seen o) .kept) b (x .monitor)) (sym (l .leaves (f .long))) (observe-follows S k b (heldBy before) (f .tracks) o oracle right);
-  };
+pub promise : (table before : List ℕ) (o : Observation) (a : Answer) (after : List ℕ) → Leaves before (observeOf table (heldBy before) o) a after → Observes inWords table before o a after
+promise table before o a after l = record {
+  fits = l .long;
+  holds = l .leaves;
   unchanged = l .unchanged;
+  stopped = l .stopped;
+  blank = l .spare;
+  answers = λ b e S k f oracle right.
+      ap (λ (x : Observed). valuesOf (x .answer)) (l .leaves (f .fits)) ∙ rw (← e) (observe-answers S k b (heldBy before) (f .tracks) o oracle right);
+  follows = λ b e S k f oracle right. record {
+    fits = l .long (f .fits);
+    tracks = subst (λ (x : Observed). Tracks S (judge oracle k (seen o) .kept) b (x .monitor)) (sym (l .leaves (f .fits))) (rw (← e) (observe-follows S k b (heldBy before) (f .tracks) o oracle right));
+  };
 }
-
--- the same of the table that the call is lent
-pub lent-promise : (table before : List ℕ) (o : Observation) (a : Answer) (after : List ℕ) → Leaves before (observeOf table (heldBy before) o) a after → ObservesLent table before o a after
-lent-promise table before o a after l b e = promise b before o a after (rw e l)

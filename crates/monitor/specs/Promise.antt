@@ -1,4 +1,5 @@
--- What observing promises. `Follows` is the one relation that callers keep: a monitor follows what the judge keeps, under the book of a well-formed sheet. Its parts are this crate's own.
+-- What observing promises, for every form of a monitor. `Follows` is the one relation that callers keep: a monitor follows what the judge keeps, under the book of a well-formed sheet. Its
+-- parts are this crate's own.
 -- Assumes nothing.
 use mathlib.Core.Path.{_≡_}
 use mathlib.Core.Bool.{false, cond, _&&_}
@@ -9,7 +10,7 @@ use lib.ListN.{length, getD}
 use Rattle.names.specs.Names.{member}
 use Rattle.pattern.specs.Meaning.{Rule}
 use Rattle.pattern.specs.Judge.{NeverFalls, Oracle, Right, Verdict, allWhole, someOpen, brokenAt, verdictOf, mask, isOpen, Kept, nothing, judge, judgeAnswers, judgeKeeps}
-use Rattle.pattern.specs.Judge as J
+use Rattle.pattern.specs.Values.{verdictValues, answerValues}
 use Rattle.pattern.specs.Model.{statuses}
 use Rattle.pattern.specs.Model as M
 use Rattle.pattern.specs.Agreement as A
@@ -18,21 +19,20 @@ use Rattle.layout.specs.Pages.{ruleAt}
 use Rattle.book.specs.Looks.{Looks}
 use Rattle.book.specs.declared.Book.{Book}
 use Rattle.step.specs.Shows.{Shows, running}
-use Rattle.words.specs.Words.{noState, Held, heldBy}
+use Rattle.words.specs.Words.{noState, Held, heldBy, lastWord}
+use Rattle.opening.specs.Fresh.{freshHeld}
+use Rattle.answers.specs.Observe.{observeOf}
 use Rattle.answers.specs.declared.Observation.{Observation}
 use Rattle.answers.specs.declared.Answer.{Answer}
-pub use Rattle.answers.specs.Cases.{seen, said}
+pub use Rattle.answers.specs.Cases.{seen, valuesOf}
 
 -- the verdict that a monitor holds: 2 is broken, at the last observation taken; 1 is open
 abbrev pub verdictIn : Held → Verdict
 verdictIn m = cond (eqb (m .verdict) 2) (brokenAt (m .taken) (m .mask)) (cond (eqb (m .verdict) 1) (someOpen (m .mask)) allWhole)
 
--- an answer says the verdict that a monitor holds, by its numbers and in words
-abbrev pub SaysOf : Answer → Held → Type 0
-SaysOf a m = said a ≡ J.verdict (verdictIn m)
-
-abbrev pub Says : Answer → List ℕ → Type 0
-Says a m = SaysOf a (heldBy m)
+-- an answer says the verdict that a monitor holds
+abbrev pub Says : Answer → Held → Type 0
+Says a m = valuesOf a ≡ verdictValues (verdictIn m)
 
 -- ---- a monitor's numbers, and the state of the model that they stand for
 
@@ -67,38 +67,55 @@ pub record Tracks (S : Sheet) (k : Kept) (b : Book) (m : Held) : Type 0 where
   pub follows : A.Follows (S .rules) k model
   pub represents : Represents (S .rules) model m
 
--- the monitor in these words does
-pub record Follows (S : Sheet) (k : Kept) (b : Book) (m : List ℕ) : Type 0 where
-  pub long : length m ≡ 34
-  pub tracks : Tracks S k b (heldBy m)
+-- ---- the promise, for every form of a monitor
 
--- ---- the promise
+-- a form: what a monitor of it holds; which values are of the form; and that nothing stands in bits of it that hold nothing
+pub record Form (X : Type 0) : Type 1 where
+  pub held : X → Held
+  pub Fits : X → Type 0
+  pub Blank : X → Type 0
 
--- one observation: the judge's next answer, and the monitor follows what the judge then keeps; a refused observation leaves every word as it was. Of a book and a monitor that follow no
--- judge's list nothing else is promised but that the call returns
-pub record Observes (b : Book) (before : List ℕ) (o : Observation) (a : Answer) (after : List ℕ) : Type 0 where
-  pub answers : (S : Sheet) (k : Kept) → Follows S k b before → (oracle : Oracle) → Right (S .rules) oracle → said a ≡ judge oracle k (seen o) .answer
-  pub follows : (S : Sheet) (k : Kept) → Follows S k b before → (oracle : Oracle) → Right (S .rules) oracle → Follows S (judge oracle k (seen o) .kept) b after
-  pub unchanged : (n : ℕ) → said a ≡ J.refused n → after ≡ before
+-- in words, which are 34: their type says so, but a contract is not told the length of an array behind a reference
+abbrev pub inWords : Form (List ℕ)
+inWords = record { held = heldBy; Fits = λ (m : List ℕ). length m ≡ 34; Blank = λ (m : List ℕ). getD m 33 0 ≡ lastWord (heldBy m) }
 
--- the call: of whatever book the table that it is lent is
-abbrev pub ObservesLent : List ℕ → List ℕ → Observation → Answer → List ℕ → Type 0
-ObservesLent table before o a after = (b : Book) → b .table ≡ table → Observes b before o a after
+module _ {X : Type 0} (F : Form X) where
+  -- a monitor follows what the judge keeps, under the book of the sheet
+  pub record Follows (S : Sheet) (k : Kept) (b : Book) (m : X) : Type 0 where
+    pub fits : F .Fits m
+    pub tracks : Tracks S k b (F .held m)
 
--- a fresh monitor follows the judge that has kept nothing, under every book
-abbrev pub Freshes : List ℕ → Type 0
-Freshes m = (S : Sheet) (b : Book) → WellFormedSheet S → Looks S b → Follows S nothing b m
+  -- one observation, under the table that is lent
+  pub record Observes (table : List ℕ) (before : X) (o : Observation) (a : Answer) (after : X) : Type 0 where
+    pub fits : F .Fits before → F .Fits after
+    -- for every table and every monitor: what the monitor then holds, and the answer, are this function of the table, of what it held and of the observation. So for a table or a monitor that
+    -- these calls did not make only the verdict is free (`Every`, in answers/specs)
+    pub holds : F .Fits before → record { monitor = F .held after; answer = a } ≡ observeOf table (F .held before) o
+    -- a refused observation leaves the monitor equal, and so does every observation after a break
+    pub unchanged : valuesOf a .answer ≡ 3 → after ≡ before
+    pub stopped : F .held before .verdict ≡ 2 → after ≡ before
+    -- one that is taken leaves nothing in bits that hold nothing, whatever stood there
+    pub blank : F .Fits before → (F .held before .verdict ≡ 2 → ⊥) → (valuesOf a .answer ≡ 3 → ⊥) → F .Blank after
+    -- for any book with this table, of a well-formed sheet, and a monitor that follows what the judge keeps: the judge's next answer, and the monitor follows what the judge then keeps
+    pub answers : (b : Book) → b .table ≡ table → (S : Sheet) (k : Kept) → Follows S k b before → (oracle : Oracle) → Right (S .rules) oracle → valuesOf a ≡ answerValues (judge oracle k (seen o) .answer)
+    pub follows : (b : Book) → b .table ≡ table → (S : Sheet) (k : Kept) → Follows S k b before → (oracle : Oracle) → Right (S .rules) oracle → Follows S (judge oracle k (seen o) .kept) b after
+
+  -- a fresh monitor: it is the same for every book, and follows the judge that has kept nothing
+  pub record Freshes (m : X) : Type 0 where
+    pub holds : F .held m ≡ freshHeld
+    pub blank : F .Blank m
+    pub follows : (S : Sheet) (b : Book) → WellFormedSheet S → Looks S b → Follows S nothing b m
 
 -- ---- a run of calls
 
--- one observation after the other, each on what the last one left; what a call promises is all that is known of it. A call is one in words (`Observes`) or by value (crate `value`, `Turns`)
+-- one observation after the other, each on what the last one left; what a call promises is all that is known of it, in whatever form (`Observes`)
 pub data Run {X : Type 0} (Call : X → Observation → Answer → X → Type 0) : X → List Observation → List Answer → X → Type 0 where
   done : {m : X} → Run Call m [] [] m
   more : {m next last : X} {o : Observation} {os : List Observation} {a : Answer} {as′ : List Answer} → Call m o a next → Run Call next os as′ last → Run Call m (o ∷ os) (a ∷ as′) last
 
--- demand 3 for such a run: the judge's answers in order, the length of its list, and its verdict, in the numbers of the monitor that the last call left
+-- demand 3 for such a run: the values of the judge's answers in order, the length of its list, and its verdict, in the numbers of the monitor that the last call left
 pub record RunAgrees (S : Sheet) (os : List Observation) (as′ : List Answer) (m : Held) (oracle : Oracle) : Type 0 where
-  pub answered : map said as′ ≡ judgeAnswers oracle nothing (map seen os)
+  pub answered : map valuesOf as′ ≡ map answerValues (judgeAnswers oracle nothing (map seen os))
   pub taken : m .taken ≡ length (judgeKeeps oracle nothing (map seen os) .taken)
   pub verdict : verdictIn m ≡ judgeKeeps oracle nothing (map seen os) .verdict
 

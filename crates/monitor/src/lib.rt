@@ -4,42 +4,43 @@
 ghost use mathlib.Core.Path.{_≡_};
 ghost use Rattle.words.specs.Words.{heldBy};
 ghost use Rattle.answers.specs.declared.Observation.the-variants.{Event, Clock};
-ghost use Rattle.monitor.specs.Promise.{ObservesLent, Freshes, Says};
+ghost use Rattle.monitor.specs.Promise.{inWords, Observes, Freshes, Says};
 use answers::Answer;
 use answers::Observation;
 
 // One observation of a monitor in place, under the book whose table is lent: the judge's answer, and the words then hold a monitor that follows what the judge then keeps. A refused
-// observation leaves every word as it was.
-// For a table or words that these calls did not make, or a monitor opened for another book, the answer is the program's choice; the call returns, and touches nothing but the words.
+// observation leaves every word as it was, and so does each one after a break.
+// For a table or words that these calls did not make, or a monitor opened for another book, the verdict is the program's choice; the answer is one of the four, and refused exactly as the
+// numbers in the words say. The call returns, and touches nothing but the words.
 pub fn observe(table: &[u64; 1104], m: &mut [u64; 34], o: Observation) -> Answer
-    ensures { λ r. ⌜ ObservesLent (now (table .entry)) (now (m .entry)) o r (now (m .exit)) ⌝ }
+    ensures { λ r. ⌜ Observes inWords (now (table .entry)) (now (m .entry)) o r (now (m .exit)) ⌝ }
 {
     observing::observed_by(table, m, o)
 }
 
 // The same of an event, whose name may be any number; and of a clock reading.
 pub fn note(table: &[u64; 1104], m: &mut [u64; 34], name: u32, time: u32) -> Answer
-    ensures { λ r. ⌜ ObservesLent (now (table .entry)) (now (m .entry)) (Event name time) r (now (m .exit)) ⌝ }
+    ensures { λ r. ⌜ Observes inWords (now (table .entry)) (now (m .entry)) (Event name time) r (now (m .exit)) ⌝ }
 {
     observing::noted(table, m, name, time)
 }
 
 pub fn tick(table: &[u64; 1104], m: &mut [u64; 34], time: u32) -> Answer
-    ensures { λ r. ⌜ ObservesLent (now (table .entry)) (now (m .entry)) (Clock time) r (now (m .exit)) ⌝ }
+    ensures { λ r. ⌜ Observes inWords (now (table .entry)) (now (m .entry)) (Clock time) r (now (m .exit)) ⌝ }
 {
     observing::ticked(table, m, time)
 }
 
 // A fresh monitor: it follows the judge that has kept nothing, under every book.
 pub fn fresh() -> [u64; 34]
-    ensures { λ m. ⌜ Freshes m ⌝ }
+    ensures { λ m. ⌜ Freshes inWords m ⌝ }
 {
     opening::unstarted()
 }
 
 // The verdict that a monitor holds.
 pub fn verdict(m: &[u64; 34]) -> Answer
-    ensures { λ r. ⌜ Says r (now (m .entry)) ⌝ }
+    ensures { λ r. ⌜ Says r (heldBy (now (m .entry))) ⌝ }
 {
     let v = words::verdict(m);
     let mask = words::mask(m);

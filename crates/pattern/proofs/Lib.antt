@@ -18,3 +18,4 @@ pub mod Agreement
 pub mod WellFormed
 pub mod Marked
 pub mod Consequences
+pub mod Values

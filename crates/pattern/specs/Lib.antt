@@ -1,6 +1,7 @@
 pub mod Lists
 pub mod Meaning
 pub mod Judge
+pub mod Values
 pub mod Recogniser
 pub mod Model
 pub mod Agreement

@@ -1,5 +1,8 @@
 pub mod Saying
+pub mod Judging
+pub mod Going
 pub mod Playing
 pub mod Running
 pub mod Looked
 pub mod Consumed
+pub mod Every

@@ -1,5 +1,5 @@
--- The records one after the other. The monitor that the loop has after i records follows what the judge then keeps, and what is left to play from there is what was to be played: `Playing`.
--- A turn that does not stop keeps it so; a turn that stops, and the end, give the outcome.
+-- The records one after the other, under whatever table (`Going`), and under the table of a sheet's book, where the monitor follows what the judge keeps, and what is left to play from there is what
+-- was to be played: `Reached`. A turn that does not stop keeps both so; a turn that stops, and the end, give the outcome.
 -- Assumes nothing.
 use mathlib.Core.Path.{_≡_, refl, sym, _∙_, ap, ap₂, subst}
 use mathlib.Core.Bool.{Bool, true, false, cond}
@@ -8,94 +8,111 @@ use Prim.Native.Nat.{ℕ, suc, _+_, _-_, _*_, _≤_, _<_}
 use native.Mathlib.Numerals.{add-one}
 use native.Mathlib.Omega.{arith}
 use lib.ListN.{length}
-use Rattle.pattern.specs.Judge.{Oracle, Right, Kept, nothing}
+use Rattle.pattern.specs.Judge.{Oracle, Right, allWhole, someOpen, brokenAt, Kept, nothing, Turn}
+use Rattle.pattern.specs.Judge as J
+use Rattle.pattern.specs.Values.{answerValues}
+use Rattle.pattern.proofs.Values.{same-answer}
 use Rattle.layout.specs.Layout.{Sheet, WellFormedSheet}
 use Rattle.book.specs.Looks.{Looks}
 use Rattle.book.specs.declared.Book.{Book}
+use Rattle.words.specs.Words.{heldBy}
 use Rattle.answers.specs.declared.Observation.{Observation}
-use Rattle.monitor.specs.Promise.{seen, Follows, Freshes}
-use Rattle.monitor.proofs.Agreement.{follows-taken, follows-verdict}
+use Rattle.answers.specs.declared.Answer.{Answer}
+use Rattle.answers.specs.declared.Answer.the-variants.{Whole, Open, Broken, Refused}
+use Rattle.monitor.specs.Promise.{seen, valuesOf, verdictIn, inWords, Follows, Freshes}
+use Rattle.monitor.proofs.Agreement.{tracks-taken, tracks-verdict}
 use Rattle.records.specs.Records.{recordAt}
-use Rattle.runner.specs.Log.{ended, stops, stoppedBy, turnAt, play}
-use Rattle.runner.specs.Runs.{Plays, Turns, TurnsLent, endedIn}
+use Rattle.runner.specs.Log.{ended, turnAt, play}
+use Rattle.runner.specs.Runs.{Played, Plays, stopsAt, SaysAt, Turns, endedIn}
 use Rattle.runner.specs.declared.Outcome.{Outcome}
 use Rattle.runner.specs.declared.Turned.{Turned}
+use Rattle.runner.proofs.Judging.{play-end, playBy, play-turn}
+use Rattle.runner.proofs.Going.{Going, going-start, going-done, going-next}
 
--- ---- one record of the definition
-
-module _ (oracle : Oracle) (log : List ℕ) (k : Kept) (i : ℕ) where
-  pub play-end : play oracle log k i 0 ≡ ended (k .verdict) (length (k .taken))
-  unfolding play
-  play-end = refl
-
-  pub play-stops : (n : ℕ) → stops (turnAt oracle log k i .answer) ≡ true
-      → play oracle log k i (suc n) ≡ stoppedBy (turnAt oracle log k i .answer) k (turnAt oracle log k i .kept) (5 * i)
-  unfolding play
-  play-stops n e = ap (λ (t : Bool). cond t (stoppedBy (turnAt oracle log k i .answer) k (turnAt oracle log k i .kept) (5 * i)) (play oracle log (turnAt oracle log k i .kept) (suc i) n)) e
-
-  pub play-goes : (n : ℕ) → stops (turnAt oracle log k i .answer) ≡ false → play oracle log k i (suc n) ≡ play oracle log (turnAt oracle log k i .kept) (suc i) n
-  unfolding play
-  play-goes n e = ap (λ (t : Bool). cond t (stoppedBy (turnAt oracle log k i .answer) k (turnAt oracle log k i .kept) (5 * i)) (play oracle log (turnAt oracle log k i .kept) (suc i) n)) e
-
--- ---- the loop
+-- ---- under the table of a sheet's book
 
 pub record Reached (oracle : Oracle) (S : Sheet) (b : Book) (log : List ℕ) (n : ℕ) (m : List ℕ) (i : ℕ) : Type 0 where
   pub k : Kept
-  pub follows : Follows S k b m
+  pub follows : Follows inWords S k b m
   pub rest : play oracle log nothing 0 n ≡ play oracle log k i (n - i)
 
-module _ (table log : List ℕ) (n : ℕ) where
-  abbrev pub Playing : List ℕ → ℕ → Type 0
-  Playing m i =
-      (i ≤ n) × ((S : Sheet) (b : Book) → WellFormedSheet S → Looks S b → b .table ≡ table
-      → (oracle : Oracle) → Right (S .rules) oracle → Reached oracle S b log n m i)
+module _ {oracle : Oracle} {S : Sheet} {b : Book} {log m : List ℕ} {n i : ℕ} (p : Reached oracle S b log n m i) where
+  taken : heldBy m .taken ≡ length (p .k .taken)
+  taken = tracks-taken S (p .k) b (heldBy m) (p .follows .tracks)
 
-  pub start : (m : List ℕ) → Freshes m → Playing m 0
-  start m fresh = (
-    omega arith,
-    λ S b formed looks lent oracle right. record {
-      k = nothing;
-      follows = fresh S b formed looks;
-      rest = let z : n - 0 ≡ n = omega arith in rw z;
-    },
-  )
+  verdict : verdictIn (heldBy m) ≡ p .k .verdict
+  verdict = tracks-verdict S (p .k) b (heldBy m) (p .follows .tracks)
 
-  module _ (m : List ℕ) (i : ℕ) (playing : Playing m i) where
-    pub done : n ≤ i → (r : Outcome) → r ≡ endedIn m → Plays table log n r
-    done h r e S b formed looks lent oracle right =
-        let p = playing .1 S b formed looks lent oracle right in
-        let z : n - i ≡ 0 = omega arith in
-        e ∙ ap₂ ended (follows-verdict S (p .k) b m (p .follows)) (follows-taken S (p .k) b m (p .follows))
-        ∙ sym (p .rest ∙ ap (play oracle log (p .k) i) z ∙ play-end oracle log (p .k) i)
+  reached-done : n ≡ i → endedIn m ≡ play oracle log nothing 0 n
+  reached-done e =
+      ap₂ ended verdict taken ∙ sym (p .rest ∙ ap (play oracle log (p .k) i) (omega arith) ∙ play-end oracle log (p .k) i)
 
-    module _ (h : i < n) (o : Observation) (is : seen o ≡ recordAt log i) (t : Turned) (next : List ℕ) (turns : TurnsLent table m o (5 * i) t next) where
-      -- the judge's turn at record i
-      module _ (S : Sheet) (b : Book) (formed : WellFormedSheet S) (looks : Looks S b) (lent : b .table ≡ table) (oracle : Oracle) (right : Right (S .rules) oracle) where
-        reached : Reached oracle S b log n m i
-        reached = playing .1 S b formed looks lent oracle right
+  module _ {table after : List ℕ} {o : Observation} {t : Turned} (h : i < n) (is : seen o ≡ recordAt log i) (lent : b .table ≡ table) (right : Right (S .rules) oracle)
+      (turns : Turns table m o (5 * i) t after) where
+    abbrev turn : Turn
+    turn = turnAt oracle log (p .k) i
 
-        turned : Turns oracle S (reached .k) b (recordAt log i) (5 * i) t next
-        turned = subst (λ x. Turns oracle S (reached .k) b x (5 * i) t next) is (turns b lent S (reached .k) (reached .follows) oracle right)
+    left : {a : J.Answer} → a ≡ turn .answer → play oracle log nothing 0 n ≡ playBy oracle log (p .k) i (n - suc i) (record { answer = a; kept = turn .kept })
+    left j = p .rest ∙ ap (play oracle log (p .k) i) (omega arith) ∙ play-turn oracle log (p .k) i (n - suc i) j
 
-        left : play oracle log nothing 0 n ≡ play oracle log (reached .k) i (suc (n - (i + 1)))
-        left = reached .rest ∙ ap (play oracle log (reached .k) i) (omega arith)
+    answers : valuesOf (turns .answer) ≡ answerValues (turn .answer)
+    answers = rw is at (turns .observes .answers b lent S (p .k) (p .follows) oracle right)
 
-      pub more : t .stops ≡ false → Playing next (i + 1)
-      more e = (
-        omega arith,
-        λ S b formed looks lent oracle right.
-            let p = reached S b formed looks lent oracle right in
-            let q = turned S b formed looks lent oracle right in
-            record {
-              k = turnAt oracle log (p .k) i .kept;
-              follows = q .follows;
-              rest = left S b formed looks lent oracle right ∙ play-goes oracle log (p .k) i (n - (i + 1)) (sym (q .stops′) ∙ e)
-                  ∙ ap (λ j. play oracle log (turnAt oracle log (p .k) i .kept) j (n - (i + 1))) (sym (add-one i));
-            },
-      )
+    follows : Follows inWords S (turn .kept) b after
+    follows = rw is at (turns .observes .follows b lent S (p .k) (p .follows) oracle right)
 
-      pub stop : t .stops ≡ true → Plays table log n (t .outcome)
-      stop e S b formed looks lent oracle right =
-          let p = reached S b formed looks lent oracle right in
-          let q = turned S b formed looks lent oracle right in
-          q .says e ∙ sym (left S b formed looks lent oracle right ∙ play-stops oracle log (p .k) i (n - (i + 1)) (sym (q .stops′) ∙ e))
+    -- after a record: what a run that stops says is what the judge's says, or the monitor follows what the judge then keeps
+    reached-next : cond (t .stops) (t .outcome ≡ play oracle log nothing 0 n) (Reached oracle S b log n after (suc i))
+    reached-next = rw (turns .stops) (look (turns .answer) answers (turns .observes .unchanged) (turns .says))
+      where
+        look : (a : Answer) → valuesOf a ≡ answerValues (turn .answer) → (valuesOf a .answer ≡ 3 → after ≡ m) → SaysAt a (heldBy after) (5 * i) (t .outcome)
+            → cond (stopsAt a) (t .outcome ≡ play oracle log nothing 0 n) (Reached oracle S b log n after (suc i))
+        look Whole j u says = record { k = turn .kept; follows = follows; rest = left (same-answer (J.verdict allWhole) (turn .answer) j) }
+        look (Open x) j u says = record { k = turn .kept; follows = follows; rest = left (same-answer (J.verdict (someOpen x)) (turn .answer) j) }
+        look (Broken k x) j u says =
+            says ∙ ap (ended (brokenAt k x)) (tracks-taken S (turn .kept) b (heldBy after) (follows .tracks)) ∙ sym (left (same-answer (J.verdict (brokenAt k x)) (turn .answer) j))
+        look (Refused x) j u says =
+            says ∙ rw (u refl, verdict, taken) (sym (left (same-answer (J.refused x) (turn .answer) j)))
+
+-- ---- the loop
+
+-- for the table of a well-formed sheet's book, whatever judge
+abbrev UnderBook : List ℕ → (Oracle → Sheet → Book → Type 0) → Type 0
+UnderBook table P = (S : Sheet) (b : Book) → WellFormedSheet S → Looks S b → b .table ≡ table → (oracle : Oracle) → Right (S .rules) oracle → P oracle S b
+
+pub record Playing (table log : List ℕ) (n : ℕ) (m : List ℕ) (i : ℕ) : Type 0 where
+  pub within : i ≤ n
+  pub going : Going log m i
+  pub judged : UnderBook table (λ oracle S b. Reached oracle S b log n m i)
+
+pub start : {table log : List ℕ} {n : ℕ} {m : List ℕ} → length m ≡ 34 → Freshes inWords m → Playing table log n m 0
+start {log = log} fits fresh = record {
+  within = omega arith;
+  going = going-start fits fresh;
+  judged = λ S b formed looks lent oracle right. record { k = nothing; follows = fresh .follows S b formed looks; rest = ap (play oracle log nothing 0) (omega arith) };
+}
+
+module _ {table log : List ℕ} {n : ℕ} {m : List ℕ} {i : ℕ} (p : Playing table log n m i) where
+  pub done : {r : Outcome} → n ≤ i → r ≡ endedIn m → Plays table log n r
+  done {r} h e =
+      let z : i ≡ n = let w = p .within in omega arith in
+      record {
+        played = subst (λ (x : ℕ). Played log x r) z (going-done (p .going) e);
+        judged = λ S b formed looks lent oracle right. e ∙ reached-done (p .judged S b formed looks lent oracle right) (sym z);
+      }
+
+  module _ {after : List ℕ} {o : Observation} {t : Turned} (h : i < n) (is : seen o ≡ recordAt log i) (turns : Turns table m o (5 * i) t after) where
+    next : cond (t .stops) (Plays table log n (t .outcome)) (Playing table log n after (suc i))
+    next = look (t .stops) (going-next (p .going) h is turns) (λ S b formed looks lent oracle right. reached-next (p .judged S b formed looks lent oracle right) h is lent right turns)
+      where
+        look : (x : Bool) → cond x (Played log n (t .outcome)) (Going log after (suc i))
+            → UnderBook table (λ oracle S b. cond x (t .outcome ≡ play oracle log nothing 0 n) (Reached oracle S b log n after (suc i)))
+            → cond x (Plays table log n (t .outcome)) (Playing table log n after (suc i))
+        look true g j = record { played = g; judged = j }
+        look false g j = record { within = omega arith; going = g; judged = j }
+
+    pub stop : t .stops ≡ true → Plays table log n (t .outcome)
+    stop e = rw e at next
+
+    pub more : t .stops ≡ false → Playing table log n after (i + 1)
+    more e = rw add-one (rw e at next)

@@ -6,6 +6,7 @@ use Prim.Native.Nat.{ℕ, zero, suc, _*_, _/_, _%_, min}
 use lib.Dec.{ltb, eqb}
 use lib.ListN.{length}
 use Rattle.pattern.specs.Judge.{Observation, Oracle, Verdict, allWhole, someOpen, brokenAt, Answer, verdict, refused, Kept, nothing, Turn, judge}
+use Rattle.pattern.specs.Values.{Values, verdictValues, refusedValues}
 use Rattle.records.specs.Records.{recordAt}
 use Rattle.runner.specs.declared.Outcome.{Outcome}
 
@@ -22,11 +23,13 @@ badLength log = not (eqb (length log % 5) 0) || ltb 4294967295 (length log)
 
 -- ---- the five numbers: answer (0 whole, 1 open, 2 broken, 3 refused), refusal or 0, mask, taken, place
 
--- what a verdict says, once nothing more is looked at: "Place is k for broken .. else 0"
+-- an answer's values, and the taken count
+abbrev pub numbers : Values → ℕ → Outcome
+numbers v n = record { answer = v .answer; refusal = v .refusal; mask = v .mask; taken = n; place = v .place }
+
+-- what a verdict says, once nothing more is looked at
 abbrev pub ended : Verdict → ℕ → Outcome
-ended allWhole n = record { answer = 0; refusal = 0; mask = 0; taken = n; place = 0 }
-ended (someOpen m) n = record { answer = 1; refusal = 0; mask = m; taken = n; place = 0 }
-ended (brokenAt k m) n = record { answer = 2; refusal = 0; mask = m; taken = n; place = k }
+ended v n = numbers (verdictValues v) n
 
 -- the mask of the rules that are open: "Mask is 0 for whole"
 abbrev pub openMask : Verdict → ℕ
@@ -36,11 +39,13 @@ openMask (brokenAt k m) = 0
 
 -- a record's refusal: "after a record's refusal it is the open mask just before"; its place is "of the refused record in the log"
 abbrev pub refusedAt : ℕ → Verdict → ℕ → ℕ → Outcome
-refusedAt number before n at = record { answer = 3; refusal = number; mask = openMask before; taken = n; place = at }
+refusedAt number before n at =
+    let v : Values = refusedValues number at in
+    record { answer = v .answer; refusal = v .refusal; mask = openMask before; taken = n; place = v .place }
 
 -- a sheet's or a log's refusal: "nothing is taken"
 abbrev pub turnedAway : ℕ → ℕ → Outcome
-turnedAway number place = record { answer = 3; refusal = number; mask = 0; taken = 0; place = place }
+turnedAway number place = numbers (refusedValues number place) 0
 
 -- ---- what stops a run
 

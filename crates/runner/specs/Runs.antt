@@ -1,45 +1,84 @@
 -- What the runner's calls promise: `Runs` is the run's own promise, the others are its parts.
 -- Assumes nothing.
 use mathlib.Core.Path.{_≡_}
-use mathlib.Core.Bool.{true}
+use mathlib.Core.Bool.{Bool, true, false}
+use mathlib.Core.Option.{some}
 use mathlib.Core.List.{List}
-use Prim.Native.Nat.{ℕ}
-use Rattle.pattern.specs.Judge.{Oracle, Right, Kept, nothing, judge}
-use Rattle.pattern.specs.Judge as J
+use Prim.Native.Nat.{ℕ, zero, suc, _*_, _≤_, _<_}
+use Rattle.pattern.specs.Judge.{Oracle, Right, Verdict, allWhole, someOpen, brokenAt, timeOf, refusal, nothing}
 use Rattle.layout.specs.Layout.{Sheet, WellFormedSheet}
 use Rattle.book.specs.Looks.{Looks}
 use Rattle.book.specs.declared.Book.{Book}
-use Rattle.words.specs.Words.{heldBy}
+use Rattle.words.specs.Words.{Held, heldBy}
 use Rattle.answers.specs.declared.Observation.{Observation}
-use Rattle.monitor.specs.Promise.{seen, verdictIn, Follows}
-use Rattle.runner.specs.Log.{ended, stops, stoppedBy, play, runOf}
+use Rattle.answers.specs.declared.Answer.{Answer}
+use Rattle.answers.specs.declared.Answer.the-variants.{Whole, Open, Broken, Refused}
+use Rattle.monitor.specs.Promise.{verdictIn, inWords, Observes}
+use Rattle.records.specs.Records.{recordAt}
+use Rattle.runner.specs.Log.{badLength, ended, refusedAt, turnedAway, play, atMost, runOf}
 use Rattle.runner.specs.declared.Outcome.{Outcome}
 use Rattle.runner.specs.declared.Turned.{Turned}
 
--- ---- the promise of a run: for the table of a well-formed sheet's book, whatever judge. Of another table the outcome is the program's choice
-abbrev pub Runs : List ℕ → List ℕ → ℕ → Outcome → Type 0
-Runs table log budget r =
-    (S : Sheet) (b : Book) → WellFormedSheet S → Looks S b → b .table ≡ table
-    → (oracle : Oracle) → Right (S .rules) oracle → r ≡ runOf oracle log budget
+-- ---- the promise of a run
+
+-- the time of the record before record i; 0 if there is none
+abbrev pub timeBefore : List ℕ → ℕ → ℕ
+timeBefore log zero = 0
+timeBefore log (suc i) = timeOf (recordAt log i)
+
+-- n records under whatever table: whole or open, and all are taken; or record i breaks a rule, and is the last one taken; or it is refused, by the names and times of the log alone. Which of
+-- these, and the masks, are the table's affair
+pub data Played (log : List ℕ) (n : ℕ) (r : Outcome) : Type 0 where
+  stays-whole : r ≡ ended allWhole n → Played log n r
+  stays-open : (mask : ℕ) → r ≡ ended (someOpen mask) n → Played log n r
+  breaks : (i mask : ℕ) → i < n → r ≡ ended (brokenAt (suc i) mask) (suc i) → Played log n r
+  refuses : (i number : ℕ) (before : Verdict) → i < n → refusal (timeBefore log i) i (recordAt log i) ≡ some number → r ≡ refusedAt number before i (5 * i) → Played log n r
+
+pub record Runs (table log : List ℕ) (budget : ℕ) (r : Outcome) : Type 0 where
+  -- for every table: 14 exactly where the log is no list of records; else its records are played, up to the budget
+  pub uneven : badLength log ≡ true → r ≡ turnedAway 14 0
+  pub even : badLength log ≡ false → Played log (atMost log budget) r
+  -- for the table of a well-formed sheet's book: the judge's run, whatever judge
+  pub judged : (S : Sheet) (b : Book) → WellFormedSheet S → Looks S b → b .table ≡ table → (oracle : Oracle) → Right (S .rules) oracle → r ≡ runOf oracle log budget
 
 -- the same of the records alone, n of them
-abbrev pub Plays : List ℕ → List ℕ → ℕ → Outcome → Type 0
-Plays table log n r =
-    (S : Sheet) (b : Book) → WellFormedSheet S → Looks S b → b .table ≡ table
-    → (oracle : Oracle) → Right (S .rules) oracle → r ≡ play oracle log nothing 0 n
+pub record Plays (table log : List ℕ) (n : ℕ) (r : Outcome) : Type 0 where
+  pub played : Played log n r
+  pub judged : (S : Sheet) (b : Book) → WellFormedSheet S → Looks S b → b .table ≡ table → (oracle : Oracle) → Right (S .rules) oracle → r ≡ play oracle log nothing 0 n
+
+-- what a run says under whatever table, by the two parts of `Runs` that are for every table: 14 for no list of records alone; "In a log 13 can't arise"; "takes at most a given budget of records";
+-- "Place is k for broken, the offset named below for refused, else 0", where k is the number taken, and the refused record is the one after those taken
+pub record EveryRun (log : List ℕ) (budget : ℕ) (r : Outcome) : Type 0 where
+  pub fourteen : r .refusal ≡ 14 → badLength log ≡ true
+  pub thirteen : r .refusal ≡ 13 → ⊥
+  pub taken : r .taken ≤ budget
+  pub answer : r .answer < 4
+  pub place-open : r .answer < 2 → r .place ≡ 0
+  pub place-broken : r .answer ≡ 2 → r .place ≡ r .taken
+  pub place-refused : r .answer ≡ 3 → r .place ≡ 5 * r .taken
 
 -- ---- one record
 
--- whether the judge's answer stops the run, and with what; the monitor follows what the judge then keeps
-pub record Turns (oracle : Oracle) (S : Sheet) (k : Kept) (b : Book) (o : J.Observation) (at : ℕ) (r : Turned) (after : List ℕ) : Type 0 where
-  pub stops′ : r .stops ≡ stops (judge oracle k o .answer)
-  pub says : r .stops ≡ true → r .outcome ≡ stoppedBy (judge oracle k o .answer) k (judge oracle k o .kept) at
-  pub follows : Follows S (judge oracle k o .kept) b after
+-- "Only a refusal or a break stops" a run
+abbrev pub stopsAt : Answer → Bool
+stopsAt Whole = false
+stopsAt (Open mask) = false
+stopsAt (Broken k mask) = true
+stopsAt (Refused number) = true
 
-abbrev pub TurnsLent : List ℕ → List ℕ → Observation → ℕ → Turned → List ℕ → Type 0
-TurnsLent table before o at r after =
-    (b : Book) → b .table ≡ table → (S : Sheet) (k : Kept) → Follows S k b before
-    → (oracle : Oracle) → Right (S .rules) oracle → Turns oracle S k b (seen o) at r after
+-- what a run says that stops with an answer to the record at an offset, which has left this monitor; where it goes on, nothing is asked of it
+abbrev pub SaysAt : Answer → Held → ℕ → Outcome → Type 0
+SaysAt Whole m at r = Unit {0}
+SaysAt (Open mask) m at r = Unit {0}
+SaysAt (Broken k mask) m at r = r ≡ ended (brokenAt k mask) (m .taken)
+SaysAt (Refused number) m at r = r ≡ refusedAt number (verdictIn m) (m .taken) at
+
+-- the record is observed; whether the answer stops the run, and with what
+pub record Turns (table before : List ℕ) (o : Observation) (at : ℕ) (t : Turned) (after : List ℕ) : Type 0 where
+  pub answer : Answer
+  pub observes : Observes inWords table before o answer after
+  pub stops : t .stops ≡ stopsAt answer
+  pub says : SaysAt answer (heldBy after) at (t .outcome)
 
 -- what a monitor says, once nothing more is looked at
 abbrev pub endedIn : List ℕ → Outcome

@@ -8,7 +8,7 @@ ghost use Rattle.pattern.specs.Judge.{allWhole, someOpen, brokenAt};
 ghost use Rattle.words.specs.Words.{heldBy};
 ghost use Rattle.monitor.specs.Promise.{verdictIn};
 ghost use Rattle.runner.specs.Log.{ended, openMask, refusedAt, turnedAway};
-ghost use Rattle.runner.specs.Runs.{Runs, Plays, TurnsLent, endedIn};
+ghost use Rattle.runner.specs.Runs.{Runs, Plays, Turns, endedIn};
 use answers::Answer;
 use answers::Observation;
 
@@ -143,7 +143,7 @@ fn stopped(outcome: Outcome) -> Turned
 
 // One record's observation: "Only a refusal or a break stops" the run.
 fn turn(table: &[u64; 1104], m: &mut [u64; 34], o: Observation, at: u32) -> Turned
-    ensures { λ r. ⌜ TurnsLent (now (table .entry)) (now (m .entry)) o at r (now (m .exit)) ⌝ }
+    ensures { λ r. ⌜ Turns (now (table .entry)) (now (m .entry)) o at r (now (m .exit)) ⌝ }
 {
     let answer = monitor::observe(table, m, o);
     match answer {
@@ -185,7 +185,7 @@ fn at_most(budget: u32, count: u32) -> u32
 }
 
 // A run over a log under the book whose table is lent: 14 if the log is no list of records; else the judge's answers to its records, up to the budget.
-// For a table of no sheet's book the outcome is the program's choice; the call returns, and touches nothing.
+// For a table of no sheet's book the verdict is the program's choice; refusals, the number taken and the place are as for any other. The call returns, and touches nothing.
 pub fn run(table: &[u64; 1104], log: &[u8], budget: u32) -> Outcome
     ensures { λ r. ⌜ Runs (now (table .entry)) (now (log .entry)) budget r ⌝ }
 {

@@ -5,36 +5,38 @@ use mathlib.Core.List.{List, map}
 use Prim.Native.Nat.{ℕ}
 use lib.ListN.{length}
 use Rattle.pattern.specs.Judge.{Oracle, Right, nothing, judgeKeeps}
-use Rattle.pattern.specs.Judge as J
+use Rattle.pattern.specs.Values.{verdictValues}
 use Rattle.layout.specs.Layout.{Sheet}
-use Rattle.book.specs.Books.{Translates}
+use Rattle.layout.specs.Reading.{Outcome, accepted, refused, readSheet}
+use Rattle.sheet.specs.Answers as R
+use Rattle.book.specs.Books.{bookOf}
 use Rattle.book.specs.declared.Book.{Book}
-use Rattle.monitor.specs.Promise.{said, seen, SaysOf, Run, CodeAgreement}
-use Rattle.value.specs.Value.{numbersOf, TurnsLent, Starts}
+use Rattle.monitor.specs.Promise.{seen, valuesOf, Says, Observes, Freshes, Run, CodeAgreement}
+use Rattle.value.specs.Value.{numbersOf, byValue}
 use Rattle.value.specs.declared.Monitor.{Monitor}
 use Rattle.answers.specs.declared.Observation.{Observation}
 use Rattle.answers.specs.declared.Answer.{Answer}
 use Rattle.session.specs.declared.Opened.{Opened}
 
--- ---- the calls
+-- ---- opening, by a host that has this book and this monitor
 
--- opening from these bytes: the reader's answer and an accepted sheet's book, as translating promises; and a fresh monitor
-pub record Opens (bytes : List ℕ) (r : Opened) : Type 0 where
-  pub translates : Translates bytes (record { answer = r .answer; book = r .book })
-  pub starts : Starts (r .monitor)
+-- an accepted sheet gives its book and a fresh monitor; "A refused sheet gives no monitor": both stay as they were
+abbrev pub OpensBy : Outcome → Book → Monitor → Opened → Type 0
+OpensBy (accepted S) book monitor r = (r .book ≡ bookOf S) × Freshes byValue (r .monitor)
+OpensBy (refused number place) book monitor r = (r .book ≡ book) × (r .monitor ≡ monitor)
 
--- one observation in place: the monitor before the call, the observation, the monitor that the call leaves and its answer are such as the monitor part promises by value
-abbrev pub ObservesInPlace : List ℕ → Monitor → Observation → Monitor → Answer → Type 0
-ObservesInPlace table before o after answer = TurnsLent table before o answer after
+pub record Opens (bytes : List ℕ) (book : Book) (monitor : Monitor) (r : Opened) : Type 0 where
+  pub answers : R.valuesOf (r .answer) ≡ R.readValues (readSheet bytes)
+  pub opens : OpensBy (readSheet bytes) book monitor r
 
 -- ---- a session
 
--- one call after the other, all lent the same book's table, each on the monitor that the last one left in place; `ObservesInPlace` is all that a call promises
-abbrev pub Session : Book → Monitor → List Observation → List Answer → Monitor → Type 0
-Session b = Run (λ m o a next. ObservesInPlace (b .table) m o next a)
+-- one call after the other, all lent the same book's table, each on the monitor that the last one left in place
+abbrev pub Session : List ℕ → Monitor → List Observation → List Answer → Monitor → Type 0
+Session table = Run (Observes byValue table)
 
 -- demand 3 for a session: its answers, its count and its verdict are the judge's; and so is what the calls `taken` and `verdict` then answer
 pub record SessionAgreement (S : Sheet) (os : List Observation) (as′ : List Answer) (last : Monitor) : Type 0 where
   pub agrees : CodeAgreement S os as′ (numbersOf last)
   pub counts : (oracle : Oracle) → Right (S .rules) oracle → (n : ℕ) → n ≡ last .taken → n ≡ length (judgeKeeps oracle nothing (map seen os) .taken)
-  pub says : (oracle : Oracle) → Right (S .rules) oracle → (a : Answer) → SaysOf a (numbersOf last) → said a ≡ J.verdict (judgeKeeps oracle nothing (map seen os) .verdict)
+  pub says : (oracle : Oracle) → Right (S .rules) oracle → (a : Answer) → Says a (numbersOf last) → valuesOf a ≡ verdictValues (judgeKeeps oracle nothing (map seen os) .verdict)

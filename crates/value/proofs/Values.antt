@@ -7,9 +7,10 @@ use Rattle.pattern.specs.Judge.{Kept}
 use Rattle.layout.specs.Layout.{Sheet}
 use Rattle.book.specs.declared.Book.{Book}
 use Rattle.words.specs.Words.{Held, heldBy, Holds}
-use Rattle.monitor.specs.Promise.{Tracks, Follows, ObservesLent, Freshes}
-use Rattle.value.specs.Value.{numbersOf, TurnsLent, Starts}
+use Rattle.monitor.specs.Promise.{Tracks, inWords, Follows, Observes, Freshes}
+use Rattle.value.specs.Value.{numbersOf, byValue}
 use Rattle.value.specs.declared.Monitor.{Monitor}
+use Rattle.answers.specs.Observe.{observeOf}
 use Rattle.answers.specs.declared.Observation.{Observation}
 use Rattle.answers.specs.declared.Answer.{Answer}
 
@@ -18,18 +19,27 @@ same-numbers : (a b : Monitor) → numbersOf a ≡ numbersOf b → a ≡ b
 same-numbers a b = ap (λ (m : Held). record { rules = m .rules; taken = m .taken; latest = m .latest; verdict = m .verdict; mask = m .mask; dues = m .dues })
 
 -- words that hold a monitor which follows do so themselves, and the other way
-held-follows : (S : Sheet) (k : Kept) (b : Book) (m : Monitor) (w : List ℕ) → Holds w (numbersOf m) → Tracks S k b (numbersOf m) → Follows S k b w
-held-follows S k b m w h t = record { long = h .long; tracks = subst (Tracks S k b) (sym (h .held)) t }
+in-words : (S : Sheet) (k : Kept) (b : Book) (m : Monitor) (w : List ℕ) → Holds w (numbersOf m) → Follows byValue S k b m → Follows inWords S k b w
+in-words S k b m w h f = record { fits = h .long; tracks = subst (Tracks S k b) (sym (h .held)) (f .tracks) }
 
-module _ {table before after : List ℕ} {m next : Monitor} {o : Observation} {a : Answer} where
-  pub turns : Holds before (numbersOf m) → ObservesLent table before o a after → numbersOf next ≡ heldBy after → TurnsLent table m o a next
-  turns h observes e b lent =
-      let p = observes b lent in
-      record {
-        answers = λ S k t. p .answers S k (held-follows S k b m before h t);
-        follows = λ S k t oracle right. subst (Tracks S _ b) (sym e) (p .follows S k (held-follows S k b m before h t) oracle right .tracks);
-        unchanged = λ n is. same-numbers next m (e ∙ ap heldBy (p .unchanged n is) ∙ h .held);
-      }
+of-words : (S : Sheet) (k : Kept) (b : Book) (m : Monitor) (w : List ℕ) → numbersOf m ≡ heldBy w → Follows inWords S k b w → Follows byValue S k b m
+of-words S k b m w e f = record { fits = tt; tracks = subst (Tracks S k b) (sym e) (f .tracks) }
 
-pub starts : {w : List ℕ} {m : Monitor} → Freshes w → numbersOf m ≡ heldBy w → Starts m
-starts f e S b formed looks = subst (Tracks S _ b) (sym e) (f S b formed looks .tracks)
+module _ {table before after : List ℕ} {m next : Monitor} {o : Observation} {a : Answer} (h : Holds before (numbersOf m)) (p : Observes inWords table before o a after) (e : numbersOf next ≡ heldBy after) where
+  same : after ≡ before → next ≡ m
+  same q = same-numbers next m (e ∙ ap heldBy q ∙ h .held)
+
+  pub turns : Observes byValue table m o a next
+  turns = record {
+    fits = λ u. tt;
+    holds = λ u.
+        ap (λ (x : Held). record { monitor = x; answer = a }) e ∙ p .holds (h .long) ∙ ap (λ (x : Held). observeOf table x o) (h .held);
+    unchanged = λ z. same (p .unchanged z);
+    stopped = λ z. same (p .stopped (ap (λ (x : Held). x .verdict) (h .held) ∙ z));
+    blank = λ u s z. tt;
+    answers = λ b lent S k f. p .answers b lent S k (in-words S k b m before h f);
+    follows = λ b lent S k f oracle right. of-words S _ b next after e (p .follows b lent S k (in-words S k b m before h f) oracle right);
+  }
+
+pub starts : {w : List ℕ} {m : Monitor} → Freshes inWords w → numbersOf m ≡ heldBy w → Freshes byValue m
+starts {w} {m} f e = record { holds = e ∙ f .holds; blank = tt; follows = λ S b formed looks. of-words S _ b m w e (f .follows S b formed looks) }

@@ -3,8 +3,8 @@
 ghost use mathlib.Core.Path.{_≡_};
 ghost use lib.ListN.{length};
 ghost use Rattle.words.specs.Words.{heldBy, rulesIn, Holds};
-ghost use Rattle.monitor.specs.Promise.{SaysOf};
-ghost use Rattle.value.specs.Value.{numbersOf, TurnsLent, Starts};
+ghost use Rattle.monitor.specs.Promise.{Observes, Freshes, Says};
+ghost use Rattle.value.specs.Value.{numbersOf, byValue};
 use answers::Answer;
 use answers::Observation;
 use step::RuleState;
@@ -88,7 +88,7 @@ fn of_words(w: &[u64; 34]) -> Monitor
 
 // One observation by value: what `monitor::observe` does in words.
 pub fn step(table: &[u64; 1104], m: Monitor, o: Observation) -> Answered
-    ensures { λ r. ⌜ TurnsLent (now (table .entry)) m o (r .answer) (r .monitor) ⌝ }
+    ensures { λ r. ⌜ Observes byValue (now (table .entry)) m o (r .answer) (r .monitor) ⌝ }
 {
     let mut w = in_words(m);
     let answer = monitor::observe(table, &mut w, o);
@@ -101,7 +101,7 @@ pub fn step(table: &[u64; 1104], m: Monitor, o: Observation) -> Answered
 
 // A fresh monitor.
 pub fn start() -> Monitor
-    ensures { λ m. ⌜ Starts m ⌝ }
+    ensures { λ m. ⌜ Freshes byValue m ⌝ }
 {
     let w = monitor::fresh();
     of_words(&w)
@@ -109,7 +109,7 @@ pub fn start() -> Monitor
 
 // The verdict that a monitor holds.
 pub fn verdict_of(m: Monitor) -> Answer
-    ensures { λ r. ⌜ SaysOf r (numbersOf m) ⌝ }
+    ensures { λ r. ⌜ Says r (numbersOf m) ⌝ }
 {
     if m.verdict == 2 {
         let k = m.taken;

@@ -75,4 +75,4 @@ settles m taken latest verdict mask dues l ht hl hv hm hd =
     let v : getD (set (set m 32 a) 33 b) 33 0 % 256 ≡ verdict = rw eb (omega arith) in
     let k : getD (set (set m 32 a) 33 b) 33 0 / 65536 % 65536 ≡ mask = rw eb (middle verdict mask dues b (omega arith) hm (omega arith)) in
     let d : getD (set (set m 32 a) 33 b) 33 0 / 4294967296 % 65536 ≡ dues = rw eb (upper (verdict + 65536 * mask) dues b (omega arith) hd (omega arith)) in
-    record { long = length-set (set m 32 a) 33 b ∙ length-set m 32 a ∙ l; held = λ i. record { rules = e i; taken = t i; latest = s i; verdict = v i; mask = k i; dues = d i } }
+    record { long = length-set (set m 32 a) 33 b ∙ length-set m 32 a ∙ l; held = λ i. record { rules = e i; taken = t i; latest = s i; verdict = v i; mask = k i; dues = d i }; spare = eb }

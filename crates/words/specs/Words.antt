@@ -70,6 +70,10 @@ heldBy words = record {
   dues = duesIn (getD words 33 0);
 }
 
+-- word 33 of a monitor whose bits 8 to 15 and 48 to 63 are 0: these bits hold nothing, and every other bit of the 34 words holds something
+abbrev pub lastWord : Held → ℕ
+lastWord m = m .verdict + 65536 * m .mask + 4294967296 * m .dues
+
 -- ---- the changes, of words that are 34, as their type says
 
 -- rule r gets a state, and nothing else changes
@@ -78,7 +82,8 @@ pub record Stores (before : List ℕ) (r : ℕ) (st : RuleState) (after : List �
   pub rules : rulesIn after ≡ set (rulesIn before) r st
   pub rest : (i : ℕ) → 32 ≤ i → getD after i 0 ≡ getD before i 0
 
--- the words hold this monitor
+-- the words hold this monitor, and the bits that hold nothing are 0
 pub record Holds (words : List ℕ) (m : Held) : Type 0 where
   pub long : length words ≡ 34
   pub held : heldBy words ≡ m
+  pub spare : getD words 33 0 ≡ lastWord m

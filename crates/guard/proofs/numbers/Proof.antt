@@ -15,13 +15,17 @@ too-long-requires-2 : tie.Need-too-long-requires-2
 too-long-requires-2 c κs = search needs
 
 returns-2 : tie.Need-returns-2
-returns-2 c = λ oracle judging. rw (le-ltb 5774 (length (c .before .before .before .before .before .args .sheet .now)) (c .before .before .if1 .left), lt-ltb 65535 (length (c .before .before .before .before .before .args .log .now)) (c .before .if2 .taken)) (c .too-long2 .ensures)
+returns-2 c = λ oracle judging.
+    let s = c .before .before .before .before .before .args in
+    rw (le-ltb 5774 (length (s .sheet .now)) (c .before .before .if1 .left), lt-ltb 65535 (length (s .log .now)) (c .before .if2 .taken)) (c .too-long2 .ensures)
 
 outcome-requires : tie.Need-outcome-requires
 outcome-requires c κs = search needs
 
 returns-3 : tie.Need-returns-3
-returns-3 c = λ oracle judging. rw (le-ltb 5774 (length (c .before .before .before .before .before .args .sheet .now)) (c .before .before .if1 .left), le-ltb 65535 (length (c .before .before .before .before .before .args .log .now)) (c .before .if2 .left)) (c .outcome .ensures oracle judging)
+returns-3 c = λ oracle judging.
+    let s = c .before .before .before .before .before .args in
+    rw (le-ltb 5774 (length (s .sheet .now)) (c .before .before .if1 .left), le-ltb 65535 (length (s .log .now)) (c .before .if2 .left)) (c .outcome .ensures oracle judging)
 
 pub numbers-spec : {M : Type 1} → statement M
 numbers-spec =

@@ -5,7 +5,9 @@ use Rattle.host.proofs.guard_run.Statement.{statement}
 use Rattle.host.proofs.guard_run.Tie as tie
 
 returns : tie.Need-returns
-returns c = too-short (c .before .before .before .before .args .sheet .now) (c .before .before .before .before .args .log .now) (c .before .before .before .before .args .budget) (c .before .before .before .before .args .out .now) (c .if1 .taken)
+returns c =
+    let s = c .before .before .before .before .args in
+    too-short (s .sheet .now) (s .log .now) (s .budget) (s .out .now) (c .if1 .taken)
 
 outcome-requires : tie.Need-outcome-requires
 outcome-requires c κs = search needs
@@ -17,7 +19,10 @@ same-length : tie.Need-same-length
 same-length c = search needs
 
 returns-2 : tie.Need-returns-2
-returns-2 c = written (c .before .before .before .before .before .before .before .before .before .args .sheet .now) (c .before .before .before .before .before .before .before .before .before .args .log .now) (c .before .before .before .before .before .before .before .before .before .args .budget) (c .before .before .before .before .before .before .before .before .before .args .out .now) _ (c .before .before .before .before .before .if1 .left) (c .before .before .before .before .outcome .ensures) (c .before .before .put-outcome .ensures)
+returns-2 c =
+    let t = c .before .before .before .before .before in
+    let s = t .before .before .before .before .args in
+    written (s .sheet .now) (s .log .now) (s .budget) (s .out .now) _ (t .if1 .left) (c .before .before .before .before .outcome .ensures) (c .before .before .put-outcome .ensures)
 
 pub guard-run-spec : {M : Type 1} → statement M
 guard-run-spec =

@@ -21,13 +21,24 @@ enum-known-answer : tie.Need-enum-known-answer
 enum-known-answer c = search needs
 
 cast-at : tie.Need-cast-at
-cast-at c = omega (arith, place-fits (c .before .before .before .before .before .before .args .sheet .now) (bytes-of (c .before .before .before .before .before .before .args .sheet .now) (λ i. c .before .before .before .before .before .shared-slice-known .given i .fits)) (c .before .before .before .translate .result) (c .before .before .before .translate .ensures) (c .before .answer .given .1))
+cast-at c =
+    let s = c .before .before .before .before .before in
+    let t = c .before .before .before .translate in
+    omega (arith, place-fits (s .before .args .sheet .now) (bytes-of (s .before .args .sheet .now) (λ i. s .shared-slice-known .given i .fits)) (t .result) (t .ensures) (c .before .answer .given .1))
 
 returns : tie.Need-returns
-returns c = sheet-accepted (c .before .before .before .before .before .before .before .before .before .args .sheet .now) (bytes-of (c .before .before .before .before .before .before .before .before .before .args .sheet .now) (λ i. c .before .before .before .before .before .before .before .before .shared-slice-known .given i .fits)) (c .before .before .before .before .before .before .translate .result) (c .before .before .before .before .before .before .translate .ensures) (c .before .before .before .before .before .before .before .before .before .args .log .now) (c .before .before .before .before .before .before .before .before .before .args .budget) (c .run .result) (c .before .before .before .before .before .match .keys1) (c .run .ensures)
+returns c =
+    let s = c .before .before .before .before .before .before .before .before in
+    let t = c .before .before .before .before .before .before .translate in
+    sheet-accepted (s .before .args .sheet .now) (bytes-of (s .before .args .sheet .now) (λ i. s .shared-slice-known .given i .fits)) (t .result) (t .ensures) (s .before .args .log .now)
+    (s .before .args .budget) (c .run .result) (c .before .before .before .before .before .match .keys1) (c .run .ensures)
 
 returns-2 : tie.Need-returns-2
-returns-2 c = sheet-refused (c .before .before .before .before .before .before .args .sheet .now) (bytes-of (c .before .before .before .before .before .before .args .sheet .now) (λ i. c .before .before .before .before .before .shared-slice-known .given i .fits)) (c .before .before .before .translate .result) (c .before .before .before .translate .ensures) (c .before .before .before .before .before .before .args .log .now) (c .before .before .before .before .before .before .args .budget) _ (c .before .answer .given .1) refl
+returns-2 c =
+    let s = c .before .before .before .before .before in
+    let t = c .before .before .before .translate in
+    sheet-refused (s .before .args .sheet .now) (bytes-of (s .before .args .sheet .now) (λ i. s .shared-slice-known .given i .fits)) (t .result) (t .ensures) (s .before .args .log .now)
+    (s .before .args .budget) _ (c .before .answer .given .1) refl
 
 pub outcome-spec : {M : Type 1} → statement M
 outcome-spec =

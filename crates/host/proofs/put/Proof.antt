@@ -30,13 +30,19 @@ loop-less : tie.Need-loop-less Inv-loop μ-loop
 loop-less c = omega arith
 
 loop-again : tie.Need-loop-again Inv-loop μ-loop
-loop-again c = storing-more (c .before .before .args .out .now) (c .before .before .args .at) (c .before .before .args .n) (c .before .before .args .x) (c .before .loop .out) (c .before .loop .rest) (c .before .loop .i) (c .before .loop .inv) (c .loop-test .taken)
+loop-again c =
+    let s = c .before .before .args in
+    let l = c .before .loop in
+    storing-more (s .out .now) (s .at) (s .n) (s .x) (l .out) (l .rest) (l .i) (l .inv) (c .loop-test .taken)
 
 same-length : tie.Need-same-length Inv-loop μ-loop
 same-length c = omega arith
 
 returns : tie.Need-returns Inv-loop μ-loop
-returns c = storing-end (c .before .before .args .out .now) (c .before .before .args .at) (c .before .before .args .n) (c .before .before .args .x) (c .before .loop .out) (c .before .loop .rest) (c .before .loop .i) (c .before .loop .inv) (c .loop-test .left)
+returns c =
+    let s = c .before .before .args in
+    let l = c .before .loop in
+    storing-end (s .out .now) (s .at) (s .n) (s .x) (l .out) (l .rest) (l .i) (l .inv) (c .loop-test .left)
 
 pub put-spec : {M : Type 1} → statement M
 put-spec =

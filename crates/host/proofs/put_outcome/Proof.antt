@@ -33,7 +33,14 @@ same-length : tie.Need-same-length
 same-length c = search needs
 
 returns : tie.Need-returns
-returns c = stored-twelve (c .before .before .before .before .before .before .before .before .before .before .before .before .before .before .before .before .before .before .before .before .before .before .before .before .args .o) (c .before .before .before .before .before .before .before .before .before .before .before .before .before .before .before .before .before .before .before .before .before .before .before .before .args .out .now) (omega (arith, c .before .before .before .before .before .before .before .before .before .before .before .before .before .before .before .before .before .before .before .before .before .before .before .before .pre)) (c .before .before .before .before .before .before .before .before .before .before .before .before .before .before .before .before .before .before .before .before .put .ensures) (c .before .before .before .before .before .before .before .before .before .before .before .before .before .before .before .put2 .ensures) (c .before .before .before .before .before .before .before .before .before .before .put3 .ensures) (c .before .before .before .before .before .before .put4 .ensures) (c .before .before .put5 .ensures)
+returns c =
+    let place = c .before .before in
+    let taken = place .before .before .before .before in
+    let mask = taken .before .before .before .before in
+    let refusal = mask .before .before .before .before .before in
+    let answer = refusal .before .before .before .before .before in
+    let s = answer .before .before .before .before in
+    stored-twelve (s .args .o) (s .args .out .now) (omega (arith, s .pre)) (answer .put .ensures) (refusal .put2 .ensures) (mask .put3 .ensures) (taken .put4 .ensures) (place .put5 .ensures)
 
 pub put-outcome-spec : {M : Type 1} → statement M
 put-outcome-spec =

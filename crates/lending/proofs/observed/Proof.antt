@@ -54,7 +54,8 @@ use Rattle.answers.proofs.Observation as O
 use Rattle.answers.proofs.Observation.Laws as O′
 use Rattle.value.proofs.Answered as S
 use Rattle.value.proofs.Answered.Laws as S′
-use Rattle.session.specs.Session.{ObservesInPlace}
+use Rattle.monitor.specs.Promise.{Observes}
+use Rattle.value.specs.Value.{byValue}
 use Rattle.session.proofs.observe as observe
 use Rattle.session.proofs.observe.Symbol as observe-def
 use Rattle.session.proofs.observe.Symbol.{name as #session·observe}
@@ -127,7 +128,7 @@ module _ {M : Type 1} (𝓤 : URA M) (H : Heap 𝓤) (A : Atoms 𝓤) (W : Given
 
   -- what the callee promises of the monitor w that it leaves and of its answer
   abbrev Promised : Monitor → Answer → Type 0
-  Promised w r = ObservesInPlace (y .now) h s w r
+  Promised w r = Observes byValue (y .now) h s r w
 
   -- what `session::observe` is passed: a reference to the slot at l, under the name γ, for the lifetime α
   module _ (l α : ℕ) (γ : GName) where

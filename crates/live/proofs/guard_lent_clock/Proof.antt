@@ -1,5 +1,4 @@
 -- `live::guard_lent_clock` keeps its promise. Assumes nothing.
-use Rattle.live.proofs.Lending.{notes}
 use borrow.Author.Needs.{needs}
 use Rattle.live.proofs.guard_lent_clock.Statement.{statement}
 use Rattle.live.proofs.guard_lent_clock.Tie as tie
@@ -12,7 +11,7 @@ answer-word-requires c κs = search needs
 
 returns : tie.Need-returns
 returns c =
-    notes (c .before .tick .ensures) (c .answer-word .ensures)
+    record { answer = c .before .tick .result; number = c .answer-word .ensures; observes = c .before .tick .ensures }
 
 pub guard-lent-clock-spec : {M : Type 1} → statement M
 guard-lent-clock-spec = tie.close (tie.spec tick-requires answer-word-requires returns)

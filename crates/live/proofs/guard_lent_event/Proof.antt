@@ -1,5 +1,4 @@
 -- `live::guard_lent_event` keeps its promise. Assumes nothing.
-use Rattle.live.proofs.Lending.{notes}
 use borrow.Author.Needs.{needs}
 use Rattle.live.proofs.guard_lent_event.Statement.{statement}
 use Rattle.live.proofs.guard_lent_event.Tie as tie
@@ -12,7 +11,7 @@ answer-word-requires c κs = search needs
 
 returns : tie.Need-returns
 returns c =
-    notes (c .before .note .ensures) (c .answer-word .ensures)
+    record { answer = c .before .note .result; number = c .answer-word .ensures; observes = c .before .note .ensures }
 
 pub guard-lent-event-spec : {M : Type 1} → statement M
 guard-lent-event-spec = tie.close (tie.spec note-requires answer-word-requires returns)

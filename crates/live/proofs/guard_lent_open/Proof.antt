@@ -32,16 +32,14 @@ refused-word-requires c κs = search needs
 returns : tie.Need-returns
 returns c =
     let sheet = c .before .before .before .before .before .before .before .args .sheet .now in
-    let bytes = bytes-of sheet (λ i. c .before .before .before .before .before .before .shared-slice-known .given i .fits) in
     let t = c .before .before .before .before .before .translate in
-    opens-accepted sheet bytes (t .result) (t .ensures) _ (c .before .before .before .before .match .keys1) _ (c .fresh .ensures)
+    opens-accepted sheet (t .result) (t .ensures) _ (c .before .before .before .before .match .keys1) _ (c .fresh .ensures)
 
 returns-2 : tie.Need-returns-2
 returns-2 c =
     let sheet = c .before .before .before .before .before .before .args .sheet .now in
-    let bytes = bytes-of sheet (λ i. c .before .before .before .before .before .shared-slice-known .given i .fits) in
     let t = c .before .before .before .before .translate in
-    opens-refused sheet bytes (t .result) (t .ensures) _ (c .before .before .answer .given .1) _ (c .refused-word .ensures)
+    opens-refused sheet (t .result) (t .ensures) _ (c .before .before .answer .given .1) _ (c .refused-word .ensures)
 
 pub guard-lent-open-spec : {M : Type 1} → statement M
 guard-lent-open-spec =

@@ -1,6 +1,6 @@
 -- `live::guard_lent_verdict` keeps its promise. Assumes nothing.
-use denote.Ref.{now}
-use Rattle.live.proofs.Lending.{tells}
+use mathlib.Core.Path.{_∙_, ap}
+use Rattle.replies.specs.Replies.{wordOf}
 use borrow.Author.Needs.{needs}
 use Rattle.live.proofs.guard_lent_verdict.Statement.{statement}
 use Rattle.live.proofs.guard_lent_verdict.Tie as tie
@@ -13,7 +13,7 @@ answer-word-requires c κs = search needs
 
 returns : tie.Need-returns
 returns c =
-    tells (c .before .verdict .result) (now (c .before .before .args .monitor)) (c .before .verdict .ensures) (c .answer-word .ensures)
+    c .answer-word .ensures ∙ ap wordOf (c .before .verdict .ensures)
 
 pub guard-lent-verdict-spec : {M : Type 1} → statement M
 guard-lent-verdict-spec = tie.close (tie.spec verdict-requires answer-word-requires returns)

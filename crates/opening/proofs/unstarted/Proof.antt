@@ -57,7 +57,7 @@ unfolding freshHeld
 returns c =
     let turn = c .before .loop in
     let e : turn .r ≡ 16 = omega (arith, c .loop-test .left, turn .inv .0) in
-    record { long = turn .inv .1; held = rw (turn .inv .2, e, turn .inv .3, turn .inv .4) }
+    record { long = turn .inv .1; held = rw (turn .inv .2, e, turn .inv .3, turn .inv .4); spare = turn .inv .4 }
 
 pub unstarted-spec : {M : Type 1} → statement M
 unstarted-spec =

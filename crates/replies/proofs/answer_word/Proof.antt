@@ -1,4 +1,12 @@
 -- `replies::answer_word` meets its contract, by the cases of the answer. Assumes nothing.
+use mathlib.Core.Path.{_≡_, refl}
+use native.Mathlib.Omega.{arith}
+use denote.Enum.Declared.{tagOf}
+use Rattle.answers.specs.Cases.{valuesOf}
+use Rattle.answers.specs.declared.Answer.{Answer}
+use Rattle.answers.specs.declared.Answer.the-variants.{Whole, Open, Broken, Refused}
+use Rattle.answers.proofs.Answer.{the-type}
+use Rattle.replies.specs.Replies.{wordOf}
 use borrow.Author.Needs.{needs}
 use Rattle.replies.proofs.answer_word.Statement.{statement}
 use Rattle.replies.proofs.answer_word.Tie as tie
@@ -24,8 +32,14 @@ enum-known-a-3 c = search needs
 refused-word-requires : tie.Need-refused-word-requires
 refused-word-requires c κs = search needs
 
+whole : (a : Answer) → tagOf the-type a ≡ 0 → 0 ≡ wordOf (valuesOf a)
+whole Whole e = refl
+whole (Open m) e = absurd (omega arith)
+whole (Broken k m) e = absurd (omega arith)
+whole (Refused n) e = absurd (omega arith)
+
 returns : tie.Need-returns
-returns c = search needs
+returns c = whole (c .before .before .args .a) (c .before .match .keys1)
 
 returns-2 : tie.Need-returns-2
 returns-2 c =

@@ -1,9 +1,8 @@
 -- `runner::ended` meets its contract, by the cases of the verdict. Assumes nothing.
-use mathlib.Core.Path.{_∙_, ap}
-use denote.Ref.{now}
-use Rattle.pattern.specs.Judge.{allWhole, someOpen, brokenAt}
+use mathlib.Core.Path.{refl, _∙_, ap₂}
+use Rattle.pattern.specs.Judge.{someOpen, brokenAt}
 use Rattle.runner.specs.Log.{ended}
-use Rattle.runner.proofs.Saying.{says-ended, says-whole}
+use Rattle.runner.proofs.Saying.{told, told-whole}
 use borrow.Author.Needs.{needs}
 use Rattle.runner.proofs.ended.Statement.{statement}
 use Rattle.runner.proofs.ended.Tie as tie
@@ -31,18 +30,21 @@ whole-requires c κs = search needs
 
 returns : tie.Need-returns
 returns c =
-    c .still-open .ensures ∙ ap (ended (someOpen (c .before .before .v .given .0 .0))) (c .before .before .before .before .before .count .ensures)
-    ∙ says-ended (now (c .before .before .before .before .before .before .args .m)) (c .before .before .before .before .verdict .ensures) (c .before .before .v .given .1)
+    let n = c .before .before .before .before .before in
+    let v = c .before .before .v .given in
+    c .still-open .ensures ∙ ap₂ ended (told (n .before .args .m .now) (someOpen (v .0 .0)) refl (c .before .before .before .before .verdict .ensures) (v .1)) (n .count .ensures)
 
 returns-2 : tie.Need-returns-2
 returns-2 c =
-    c .broken .ensures ∙ ap (ended (brokenAt (c .before .before .v2 .given .0 .0) (c .before .before .v2 .given .0 .1 .0))) (c .before .before .before .before .before .count .ensures)
-    ∙ says-ended (now (c .before .before .before .before .before .before .args .m)) (c .before .before .before .before .verdict .ensures) (c .before .before .v2 .given .1)
+    let n = c .before .before .before .before .before in
+    let v = c .before .before .v2 .given in
+    c .broken .ensures ∙ ap₂ ended (told (n .before .args .m .now) (brokenAt (v .0 .0) (v .0 .1 .0)) refl (c .before .before .before .before .verdict .ensures) (v .1)) (n .count .ensures)
 
 returns-3 : tie.Need-returns-3
 returns-3 c =
-    c .whole .ensures ∙ ap (ended allWhole) (c .before .before .before .count .ensures)
-    ∙ says-whole (now (c .before .before .before .before .args .m)) (c .before .before .verdict .result) (c .before .before .verdict .ensures) (c .before .match .keys3)
+    let n = c .before .before .before in
+    let v = c .before .before .verdict in
+    c .whole .ensures ∙ ap₂ ended (told-whole (n .before .args .m .now) (v .result) (v .ensures) (c .before .match .keys3)) (n .count .ensures)
 
 pub ended-spec : {M : Type 1} → statement M
 ended-spec =

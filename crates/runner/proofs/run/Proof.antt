@@ -8,13 +8,13 @@ turned-away-requires : tie.Need-turned-away-requires
 turned-away-requires c κs = search needs
 
 returns : tie.Need-returns
-returns c = runs-turned (c .before .before .before .args .log .now) (c .before .before .before .args .budget) (uneven (c .before .before .before .args .log .now) (c .before .if1 .taken)) (c .turned-away .ensures)
+returns c = runs-turned (uneven (c .before .before .before .args .log .now) (c .before .if1 .taken)) (c .turned-away .ensures)
 
 turned-away-requires-2 : tie.Need-turned-away-requires-2
 turned-away-requires-2 c κs = search needs
 
 returns-2 : tie.Need-returns-2
-returns-2 c = runs-turned (c .before .before .before .before .args .log .now) (c .before .before .before .before .args .budget) (long (c .before .before .before .before .args .log .now) (c .before .before .if1 .left) (c .before .if2 .taken)) (c .turned-away2 .ensures)
+returns-2 c = runs-turned (long (c .before .before .before .before .args .log .now) (c .before .before .if1 .left) (c .before .if2 .taken)) (c .turned-away2 .ensures)
 
 cast-at-most : tie.Need-cast-at-most
 cast-at-most c = search needs
@@ -26,7 +26,9 @@ play-requires : tie.Need-play-requires
 play-requires c κs = search needs
 
 returns-3 : tie.Need-returns-3
-returns-3 c = runs-played (c .before .before .before .before .before .args .log .now) (c .before .before .before .before .before .args .budget) (c .before .at-most .result) (good (c .before .before .before .before .before .args .log .now) (c .before .before .before .if1 .left) (c .before .before .if2 .left)) (c .before .at-most .ensures) (c .play .ensures)
+returns-3 c =
+    let n = c .before .before .before in
+    runs-played (good (n .before .before .args .log .now) (n .if1 .left) (c .before .before .if2 .left)) (rw (c .before .at-most .ensures) at (c .play .ensures))
 
 pub run-spec : {M : Type 1} → statement M
 run-spec =

@@ -1,6 +1,6 @@
 -- `runner::turn` meets its contract, by the cases of the answer. Assumes nothing.
 use mathlib.Core.Path.{_∙_}
-use Rattle.runner.proofs.Saying.{turn-goes, turn-broken, turn-refused}
+use Rattle.runner.proofs.Saying.{turn-stops, turn-goes}
 use borrow.Author.Needs.{needs}
 use Rattle.runner.proofs.turn.Statement.{statement}
 use Rattle.runner.proofs.turn.Tie as tie
@@ -34,16 +34,16 @@ goes-on-requires c κs = search needs
 
 returns : tie.Need-returns
 returns c =
-    turn-broken (c .before .before .before .before .before .before .before .observe .ensures) (c .before .before .before .before .before .before .before .before .before .args .at) (c .stopped .result) (c .before .before .before .before .before .answer .given .1) (c .stopped .ensures .0)
+    turn-stops (c .before .before .before .before .before .before .before .observe .ensures) (c .before .before .before .before .before .answer .given .1) (c .stopped .ensures .0)
     (c .stopped .ensures .1 ∙ c .before .broken .ensures ∙ rw (c .before .before .count .ensures))
 
 returns-2 : tie.Need-returns-2
 returns-2 c =
-    turn-refused (c .before .before .before .before .before .before .observe .ensures) (c .before .before .before .before .before .before .before .before .args .at) (c .stopped2 .result) (c .before .before .before .before .answer2 .given .1) (c .stopped2 .ensures .0) (c .stopped2 .ensures .1 ∙ c .before .refused-at .ensures)
+    turn-stops (c .before .before .before .before .before .before .observe .ensures) (c .before .before .before .before .answer2 .given .1) (c .stopped2 .ensures .0)
+    (c .stopped2 .ensures .1 ∙ c .before .refused-at .ensures)
 
 returns-3 : tie.Need-returns-3
-returns-3 c =
-    turn-goes (c .before .before .observe .ensures) (c .before .before .before .before .args .at) (c .goes-on .result) (c .before .match .keys3) (c .goes-on .ensures)
+returns-3 c = turn-goes (c .before .before .observe .ensures) (c .before .match .keys3) (c .goes-on .ensures)
 
 pub turn-spec : {M : Type 1} → statement M
 turn-spec =

@@ -41,7 +41,8 @@ use denote.Triple.Clauses.{ensured, lasts}
 use denote.Triple.Table.{entered, cited}
 use denote.Triple.Walked.{says, Stays, stay-ref, stay-none, stay-none-ref, walkOf, AllGo, goes-none, goes-none-ref, goes-ref, Walks, ends-at, walked, walk-meets}
 use denote.Exit.{yes}
-use Rattle.value.specs.Value.{TurnsLent}
+use Rattle.monitor.specs.Promise.{Observes}
+use Rattle.value.specs.Value.{byValue}
 use Rattle.value.specs.declared.Monitor.{Monitor}
 use Rattle.answers.specs.declared.Answer.{Answer}
 use Rattle.answers.specs.declared.Observation.{Observation}
@@ -134,7 +135,7 @@ module _ {M : Type 1} (𝓤 : URA M) (H : Heap 𝓤) (A : Atoms 𝓤) (W : Given
   to-step = (((κ₁, tt), (q₁, tt), tt, arg, (ptr-vals y, (vals h, (vals-o s, tt)))), tt)
 
   abbrev Promised : Answered → Type 0
-  Promised r = TurnsLent (y .now) h s (r .answer) (r .monitor)
+  Promised r = Observes byValue (y .now) h s (r .answer) (r .monitor)
 
   goes : Is T.the-row h (vals h) → ent 𝓤 (⋆ 𝓤 H A ((‵ (flft κ₁ q₁) ⊛ ‵ ftrue) ∷ ‵ Lent ∷ [])) (Step 𝓤 H A at-mem run .pre to-step)
   goes is =

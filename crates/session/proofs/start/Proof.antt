@@ -35,7 +35,8 @@ use denote.Triple.Call.{calls-at}
 use denote.Triple.Clauses.{ensured, lasts}
 use denote.Triple.Table.{entered, cited}
 use denote.Triple.Walked.{says, Stays, stay-ref, walkOf, AllGo, goes-ref, Walks, ends-at, walked, walk-meets}
-use Rattle.value.specs.Value.{Starts}
+use Rattle.monitor.specs.Promise.{Freshes}
+use Rattle.value.specs.Value.{byValue}
 use Rattle.value.specs.declared.Monitor.{Monitor}
 use Rattle.value.proofs.Monitor as T
 use Rattle.value.proofs.Monitor.Laws as T′
@@ -76,10 +77,10 @@ module _ {M : Type 1} (𝓤 : URA M) (H : Heap 𝓤) (A : Atoms 𝓤) (W : Given
   goes = qed W [] ∵ nothing ! $ nothing ! $ join ! $ frame ! $ done !
 
   -- of the callee's `ensured`, the clause alone: it has no `&mut`
-  said : (r : Monitor) → ent 𝓤 (ensured 𝓤 H A fresh.ended (fresh.clauses 𝓤 H A at-mem run) tt tt tt r) (fact 𝓤 (Starts r))
-  said r = exE 𝓤 _ (λ ws. snd∗ 𝓤 (sem 𝓤 H A (lasts fresh.ended tt tt ws)) (fact 𝓤 (Starts r)))
+  said : (r : Monitor) → ent 𝓤 (ensured 𝓤 H A fresh.ended (fresh.clauses 𝓤 H A at-mem run) tt tt tt r) (fact 𝓤 (Freshes byValue r))
+  said r = exE 𝓤 _ (λ ws. snd∗ 𝓤 (sem 𝓤 H A (lasts fresh.ended tt tt ws)) (fact 𝓤 (Freshes byValue r)))
 
-  exits : (r : Monitor) → Starts r → ent 𝓤 (⋆ 𝓤 H A (‵ (fobs γ (T.the-row .coded .code r)) ∷ ‵ (fbor κ (Body (mem T.the-row) b o γ)) ∷ ‵ (flft κ q) ∷ [])) (Post vunit)
+  exits : (r : Monitor) → Freshes byValue r → ent 𝓤 (⋆ 𝓤 H A (‵ (fobs γ (T.the-row .coded .code r)) ∷ ‵ (fbor κ (Body (mem T.the-row) b o γ)) ∷ ‵ (flft κ q) ∷ [])) (Post vunit)
   exits r e =
       qed W (‵ (fobs γ (T.the-row .coded .code r)) ∷ ‵ (fbor κ (Body (mem T.the-row) b o γ)) ∷ ‵ (flft κ q) ∷ []) ∵
       suffices ! _ (ends-at 𝓤 H A f.ended stayed (f.clauses 𝓤 H A at-mem run) W (((κ, tt), (q, tt), tt, x, at), tt) vunit tt (r, tt) (tt, tt)) $
@@ -98,7 +99,7 @@ module _ {M : Type 1} (𝓤 : URA M) (H : Heap 𝓤) (A : Atoms 𝓤) (W : Given
         use0 W (raw (Fresh 𝓤 H A at-mem run .pre to-fresh)) goes $
         calls-at ! fm (Fresh 𝓤 H A at-mem run) known to-fresh (no-more !) (λ v.
         use1 W (later (some (λ (r : Monitor). (‵ ftrue ⊛ ‵ (T.the-row .own r (v ∷ []))) ⊛ raw (ensured 𝓤 H A fresh.ended (fresh.clauses 𝓤 H A at-mem run) tt tt tt r)))) (id⊢ 𝓤 _) $ await ! tt $ pick ! (λ r.
-        split ! $ move ! (1 ∷ []) $ use1 W (raw (fact 𝓤 (Starts r))) (said r) $ heard ! (Starts r) (λ e. split ! $ drop ! $
+        split ! $ move ! (1 ∷ []) $ use1 W (raw (fact 𝓤 (Freshes byValue r))) (said r) $ heard ! (Freshes byValue r) (λ e. split ! $ drop ! $
         peeks ! T.the-row (Is T.the-row) (shows 𝓤 H A T.the-row) r (v ∷ []) (λ is.
         land ! (from ! (stop !)) (init ! 1 refl (LL.lawful T.the-type T′.the-laws 𝓤 H A W .typed r _ is .0)) $
         rewrite ! 0 (λ (us : List Val). ‵ (T.the-row .own r us)) (LL.tells T.the-type T′.the-laws r _ is) refl $ rewrite ! 1 (λ (u : Val). ‵ (fat fullShare T′.mir l₂ 0 u)) (ap only (LL.tells T.the-type T′.the-laws r _ is)) refl $

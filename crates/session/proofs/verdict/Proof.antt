@@ -35,7 +35,7 @@ use denote.Triple.Clauses.{ensured, lasts}
 use denote.Triple.Table.{entered, cited}
 use denote.Triple.Walked.{says, Stays, stay-none-ref, walkOf, AllGo, goes-none-ref, Walks, ends-at, walked, walk-meets}
 use denote.Exit.{yes}
-use Rattle.monitor.specs.Promise.{SaysOf}
+use Rattle.monitor.specs.Promise.{Says}
 use Rattle.value.specs.Value.{numbersOf}
 use Rattle.value.specs.declared.Monitor.{Monitor}
 use Rattle.answers.specs.declared.Answer.{Answer}
@@ -80,10 +80,10 @@ module _ {M : Type 1} (𝓤 : URA M) (H : Heap 𝓤) (A : Atoms 𝓤) (W : Given
   goes is = qed W [] ∵ nothing ! $ owned ! T.the-row (Is T.the-row) (LL.makes T.the-type T′.the-plain 𝓤 H A) h _ is $ fjoin ! $ nothing ! $ join ! $ frame ! $ done !
 
   -- of the callee's `ensured`, the clause alone: it has no `&mut`
-  said : (r : Answer) → ent 𝓤 (ensured 𝓤 H A held.ended (held.clauses 𝓤 H A at-mem run) tt (h, tt) tt r) (fact 𝓤 (SaysOf r (numbersOf h)))
-  said r = exE 𝓤 _ (λ ws. snd∗ 𝓤 (sem 𝓤 H A (lasts held.ended tt (h, tt) ws)) (fact 𝓤 (SaysOf r (numbersOf h))))
+  said : (r : Answer) → ent 𝓤 (ensured 𝓤 H A held.ended (held.clauses 𝓤 H A at-mem run) tt (h, tt) tt r) (fact 𝓤 (Says r (numbersOf h)))
+  said r = exE 𝓤 _ (λ ws. snd∗ 𝓤 (sem 𝓤 H A (lasts held.ended tt (h, tt) ws)) (fact 𝓤 (Says r (numbersOf h))))
 
-  exits : (r : Answer) (u : Val) → SaysOf r (numbersOf h) → ent 𝓤 (⋆ 𝓤 H A (‵ (N.the-row .own r (u ∷ [])) ∷ ‵ (flft κ q) ∷ ‵ (fshr-bor κ (λ s. partAt T.the-row s h b o)) ∷ ‵ (fres γ (T.the-row .coded .code h)) ∷ [])) (Post u)
+  exits : (r : Answer) (u : Val) → Says r (numbersOf h) → ent 𝓤 (⋆ 𝓤 H A (‵ (N.the-row .own r (u ∷ [])) ∷ ‵ (flft κ q) ∷ ‵ (fshr-bor κ (λ s. partAt T.the-row s h b o)) ∷ ‵ (fres γ (T.the-row .coded .code h)) ∷ [])) (Post u)
   exits r u e =
       qed W (‵ (N.the-row .own r (u ∷ [])) ∷ ‵ (flft κ q) ∷ ‵ (fshr-bor κ (λ s. partAt T.the-row s h b o)) ∷ ‵ (fres γ (T.the-row .coded .code h)) ∷ []) ∵
       suffices ! _ (ends-at 𝓤 H A f.ended stayed (f.clauses 𝓤 H A at-mem run) W (((κ, tt), (q, tt), tt, x, at), tt) u r (tt, tt) (tt, tt)) $ says ! e $
@@ -106,7 +106,7 @@ module _ {M : Type 1} (𝓤 : URA M) (H : Heap 𝓤) (A : Atoms 𝓤) (W : Given
         use0 W (raw (Held 𝓤 H A at-mem run .pre to-held)) (goes is) $
         calls-at ! fm (Held 𝓤 H A at-mem run) known to-held (and-then ! (load ! (from ! (stop !)) (look ! 3 refl)) (no-more !)) (λ v.
         use1 W (later (some (λ (r : Answer). (‵ ftrue ⊛ ‵ (N.the-row .own r (v ∷ []))) ⊛ raw (ensured 𝓤 H A held.ended (held.clauses 𝓤 H A at-mem run) tt (h, tt) tt r)))) (id⊢ 𝓤 _) $ await ! tt $ pick ! (λ r.
-        split ! $ move ! (1 ∷ []) $ use1 W (raw (fact 𝓤 (SaysOf r (numbersOf h)))) (said r) $ heard ! (SaysOf r (numbersOf h)) (λ e. split ! $ drop ! $
+        split ! $ move ! (1 ∷ []) $ use1 W (raw (fact 𝓤 (Says r (numbersOf h)))) (said r) $ heard ! (Says r (numbersOf h)) (λ e. split ! $ drop ! $
         -- [the answer; the token; the fractured borrow; _2; …; _1; …; room for _0; …; res; true; true]
         peeks ! N.the-row (Is N.the-row) (shows 𝓤 H A N.the-row) r (v ∷ []) (λ is′.
         land ! (from ! (stop !)) (init ! 7 refl (EL.lawful N.the-type N′.the-laws 𝓤 H A W tt .typed r _ is′ .0)) $

@@ -10,7 +10,7 @@ use Rattle.layout.specs.Form.{got, stopped, read}
 use Rattle.layout.specs.Reading.{sheet, Outcome, accepted, refused, readSheet}
 use Rattle.layout.specs.Pages.{headTable, fragmentTable, rangeTable}
 use Rattle.sheet.specs.Shown.{SheetShown}
-use Rattle.sheet.specs.Answers.{answerOf, pagesOf, Reads}
+use Rattle.sheet.specs.Answers.{readValues, pagesOf, Reads}
 use Rattle.sheet.specs.declared.Pages.{Pages}
 use Rattle.sheet.specs.declared.Answer.the-variants.{Accepted, Refused}
 use Rattle.fields.proofs.Telling.{heard, heard-stop}
@@ -38,10 +38,10 @@ module _ (s : List ℕ) where
   read-all {at} e h = rw (e, le-ltb at (length s) h)
 
   refuses : (pages : Pages) {k place : ℕ} → readSheet s ≡ refused k place → Reads s (record { answer = Refused k place; pages = pages })
-  refuses pages e = record { answers = sym (ap answerOf e); keeps = λ S f. absurd (not-both f e) }
+  refuses pages e = record { answers = sym (ap readValues e); keeps = λ S f. absurd (not-both f e) }
 
   accepts : (pages : Pages) {S : Sheet} → readSheet s ≡ accepted S → pages ≡ pagesOf S → Reads s (record { answer = Accepted; pages = pages })
-  accepts pages e p = record { answers = sym (ap answerOf e); keeps = λ T f. p ∙ ap pagesOf (same-sheet e f) }
+  accepts pages e p = record { answers = sym (ap readValues e); keeps = λ T f. p ∙ ap pagesOf (same-sheet e f) }
 
 pages-of : {outputs count : ℕ} {heads words table : List ℕ} (S : Sheet)
     → SheetShown outputs count (replicate 16 0) heads (replicate 256 0) words (replicate 2048 0) table S

@@ -17,7 +17,7 @@ returns c =
     let m = c .before .before .before .before .args .m in
     let w = c .before .before .rules-in-words .ensures in
     let h = c .settle .ensures (w .0) in
-    record { long = h .long; held = h .held ∙ ap (λ (rs : List RuleState). record { rules = rs; taken = m .taken; latest = m .latest; verdict = m .verdict; mask = m .mask; dues = m .dues }) (w .1) }
+    record { long = h .long; held = h .held ∙ ap (λ (rs : List RuleState). record { rules = rs; taken = m .taken; latest = m .latest; verdict = m .verdict; mask = m .mask; dues = m .dues }) (w .1); spare = h .spare }
 
 pub in-words-spec : {M : Type 1} → statement M
 in-words-spec = tie.close (tie.spec rules-in-words-requires settle-requires returns)
