@@ -52,7 +52,7 @@ uint32_t guard_run(const uint8_t *sheet, size_t sheet_length, const uint8_t *log
 /* ---- a live session
  * The host lends the memory of one book (8,832 bytes, which guard_open writes and nothing else changes) and of one monitor for each session under it (272 bytes).
  * The words are the guard's own: a host stores and copies them, and does not read them. Every bit pattern is safe: for a book or a monitor that these calls did not make,
- * or a monitor that has observed under another book, the answer is free, the call returns, and it writes nothing but the monitor. Sheet, book and monitor do not overlap.
+ * or a monitor that has observed under another book, the verdict is free, the call returns, and it writes nothing but the monitor. Sheet, book and monitor do not overlap.
  * Threads may share an opened book; a monitor belongs to one thread at a time. */
 
 typedef struct guard_book {
