@@ -1,4 +1,4 @@
--- What the runner's calls promise: `Runs` is the run's own promise, the others are its parts.
+-- What the runner's calls promise: `Runs` is the run's own promise, and the others are its parts, but for `EveryRun`, which follows from it (`every-run`).
 -- Assumes nothing.
 use mathlib.Core.Path.{_≡_}
 use mathlib.Core.Bool.{Bool, true, false}
