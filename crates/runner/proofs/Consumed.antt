@@ -31,8 +31,8 @@ module _ (oracle : Oracle) (log : List ℕ) where
         → ((next : Kept) → stops (verdict (next .verdict)) ≡ false → Takes next (suc i) n (play oracle log next (suc i) n) (consumedFrom oracle log next (suc i) n))
         → Takes k i (suc n) (playBy oracle log k i n t) (countBy i n t)
     takes-more (refusing number e) q rest = record { taken = omega arith; few = omega arith; list = sym (append-nil (k .taken)); all = λ h. absurd (omega arith) }
-    takes-more (breaking mask) q rest = record { taken = one-more; few = omega arith; list = ap (λ (t : Turn). t .kept .taken) q; all = λ h. absurd (omega arith) }
-    takes-more (going-on v s) q rest = rw s
+    takes-more (breaking mask e) q rest = record { taken = one-more; few = omega arith; list = ap (λ (t : Turn). t .kept .taken) q; all = λ h. absurd (omega arith) }
+    takes-more (going-on v s e) q rest = rw s
         (let next : Kept = record { taken = longer k (recordAt log i); verdict = v } in
         let more = recordsFrom log (suc i) (consumedFrom oracle log next (suc i) n) in
         let r = rest next s in

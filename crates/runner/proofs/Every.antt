@@ -15,9 +15,10 @@ use Rattle.pattern.proofs.Traces.{latest-snoc}
 use Rattle.layout.proofs.Sets.{neither}
 use Rattle.records.specs.Records.{recordAt}
 use Rattle.runner.specs.Log.{badLength, ended, turnedAway, stops, play, atMost, runOf}
-use Rattle.runner.specs.Runs.{timeBefore, Played, stays-whole, stays-open, breaks, refuses, Runs, EveryRun}
+use Rattle.runner.specs.Runs.{timeBefore, Accepted, Ends, Played, stays-whole, stays-open, breaks, refuses, Runs, EveryRun}
 use Rattle.runner.specs.declared.Outcome.{Outcome}
 use Rattle.runner.proofs.Judging.{never, playBy, longer, UnbrokenTurn, refusing, breaking, going-on, unbroken-turn}
+use Rattle.runner.proofs.Going.{accepted-more, played}
 use Rattle.runner.proofs.Running.{run-turned, run-played}
 
 -- ---- the judge's run
@@ -27,14 +28,15 @@ record Keeping (log : List ℕ) (k : Kept) (i : ℕ) : Type 0 where
   runs : stops (verdict (k .verdict)) ≡ false
   taken : length (k .taken) ≡ i
   last : latest (k .taken) ≡ timeBefore log i
+  accepted : Accepted log i
 
 module _ (oracle : Oracle) (log : List ℕ) (n : ℕ) where
   ends : (k : Kept) → Keeping log k n → Played log n (ended (k .verdict) (length (k .taken)))
   ends k g = look (k .verdict) (g .runs)
     where
       look : (v : Verdict) → stops (verdict v) ≡ false → Played log n (ended v (length (k .taken)))
-      look allWhole s = stays-whole (rw (g .taken))
-      look (someOpen m) s = stays-open m (rw (g .taken))
+      look allWhole s = played (g .accepted) (g .taken) (stays-whole (rw (g .taken)))
+      look (someOpen m) s = played (g .accepted) (g .taken) (stays-open m (rw (g .taken)))
       look (brokenAt j m) s = never s
 
   module _ {k : Kept} {i : ℕ} (g : Keeping log k i) (h : i < n) where
@@ -43,10 +45,11 @@ module _ (oracle : Oracle) (log : List ℕ) (n : ℕ) where
 
     plays-more : (left : ℕ) {t : Turn} → UnbrokenTurn k (recordAt log i) t
         → ((next : Kept) → Keeping log next (suc i) → Played log n (play oracle log next (suc i) left)) → Played log n (playBy oracle log k i left t)
-    plays-more left (refusing number e) rest =
-        refuses i number (k .verdict) h (rw (g .last, g .taken) at e) (rw (g .taken))
-    plays-more left (breaking mask) rest = breaks i mask h (rw one-more)
-    plays-more left (going-on v s) rest = rw s (rest (record { taken = longer k (recordAt log i); verdict = v }) (record { runs = s; taken = one-more; last = latest-snoc 0 (k .taken) (recordAt log i) }))
+    plays-more left (refusing number e) rest = played (g .accepted) (g .taken) (refuses i number (k .verdict) h (rw (g .last, g .taken) at e) (rw (g .taken)))
+    plays-more left (breaking mask e) rest = played (accepted-more log i (g .accepted) (rw (g .last, g .taken) at e)) one-more (breaks i mask h (rw one-more))
+    plays-more left (going-on v s e) rest = rw s
+        (rest (record { taken = longer k (recordAt log i); verdict = v })
+        (record { runs = s; taken = one-more; last = latest-snoc 0 (k .taken) (recordAt log i); accepted = accepted-more log i (g .accepted) (rw (g .last, g .taken) at e) }))
 
   plays : (left : ℕ) (k : Kept) (i : ℕ) → Keeping log k i → i + left ≡ n → Played log n (play oracle log k i left)
   unfolding play
@@ -54,7 +57,7 @@ module _ (oracle : Oracle) (log : List ℕ) (n : ℕ) where
   plays (suc left) k i g e = plays-more g (omega arith) left (unbroken-turn oracle k (recordAt log i) (g .runs)) (λ next g′. plays left next (suc i) g′ (omega arith))
 
   pub played-by-judge : Played log n (play oracle log nothing 0 n)
-  played-by-judge = plays n nothing 0 (record { runs = refl; taken = refl; last = refl }) (omega arith)
+  played-by-judge = plays n nothing 0 (record { runs = refl; taken = refl; last = refl; accepted = λ j h. absurd (omega arith) }) (omega arith)
 
 -- ---- every run
 
@@ -80,7 +83,7 @@ module _ {log : List ℕ} {budget : ℕ} where
     place-refused = λ z. e ∙ rw z;
   }
 
-  every-played : {r : Outcome} → badLength log ≡ false → Played log (atMost log budget) r → EveryRun log budget r
+  every-played : {r : Outcome} → badLength log ≡ false → Ends log (atMost log budget) r → EveryRun log budget r
   every-played e (stays-whole q) = rw q (every-place _ (omega arith) refl (omega arith) (omega arith))
   every-played e (stays-open mask q) = rw q (every-place _ (omega arith) refl (omega arith) (omega arith))
   every-played e (breaks i mask h q) = rw q (every-place _ (omega arith) refl (omega arith) (omega arith))
@@ -94,7 +97,7 @@ module _ {log : List ℕ} {budget : ℕ} where
       look : (x : Bool) → badLength log ≡ x → EveryRun log budget r
       look true e = rw (uneven e)
           (record { fourteen = λ z. e; thirteen = λ z. omega arith; taken = omega arith; answer = omega arith; place-open = λ z. refl; place-broken = λ z. refl; place-refused = λ z. refl })
-      look false e = every-played e (even e)
+      look false e = every-played e (even e .ends)
 
   pub every-run : {table : List ℕ} {r : Outcome} → Runs table log budget r → EveryRun log budget r
   every-run runs = every (runs .uneven) (runs .even)

@@ -41,24 +41,24 @@ joined k o v = record { answer = verdict v; kept = record { taken = longer k o; 
 
 pub data UnbrokenTurn (k : Kept) (o : Observation) : Turn → Type 0 where
   refusing : (number : ℕ) → refusal (latest (k .taken)) (length (k .taken)) o ≡ some number → UnbrokenTurn k o (record { answer = refused number; kept = k })
-  breaking : (broken : ℕ) → UnbrokenTurn k o (joined k o (brokenAt (length (longer k o)) broken))
-  going-on : (v : Verdict) → stops (verdict v) ≡ false → UnbrokenTurn k o (joined k o v)
+  breaking : (broken : ℕ) → refusal (latest (k .taken)) (length (k .taken)) o ≡ none → UnbrokenTurn k o (joined k o (brokenAt (length (longer k o)) broken))
+  going-on : (v : Verdict) → stops (verdict v) ≡ false → refusal (latest (k .taken)) (length (k .taken)) o ≡ none → UnbrokenTurn k o (joined k o v)
 
 module _ (oracle : Oracle) (k : Kept) (o : Observation) where
-  joins : UnbrokenTurn k o (unlessRefused oracle k o none)
-  joins = look (eqb (mask isBroken (oracle (longer k o))) 0) (eqb (mask isOpen (oracle (longer k o))) 0)
+  joins : refusal (latest (k .taken)) (length (k .taken)) o ≡ none → UnbrokenTurn k o (unlessRefused oracle k o none)
+  joins e = look (eqb (mask isBroken (oracle (longer k o))) 0) (eqb (mask isOpen (oracle (longer k o))) 0)
     where
       look : (x y : Bool) → UnbrokenTurn k o (joined k o (cond x (cond y allWhole (someOpen (mask isOpen (oracle (longer k o))))) (brokenAt (length (longer k o)) (mask isBroken (oracle (longer k o))))))
-      look true true = going-on allWhole refl
-      look true false = going-on (someOpen (mask isOpen (oracle (longer k o)))) refl
-      look false y = breaking (mask isBroken (oracle (longer k o)))
+      look true true = going-on allWhole refl e
+      look true false = going-on (someOpen (mask isOpen (oracle (longer k o)))) refl e
+      look false y = breaking (mask isBroken (oracle (longer k o))) e
 
   -- a verdict that is not broken is not told again: the judge looks for a refusal
   pub unbroken-turn : stops (verdict (k .verdict)) ≡ false → UnbrokenTurn k o (judge oracle k o)
   unbroken-turn = look (k .verdict) (found (refusal (latest (k .taken)) (length (k .taken)) o) refl)
     where
       found : (r : Option ℕ) → refusal (latest (k .taken)) (length (k .taken)) o ≡ r → UnbrokenTurn k o (unlessRefused oracle k o r)
-      found none e = joins
+      found none e = joins e
       found (some number) e = refusing number e
 
       look : (v : Verdict) → UnbrokenTurn k o (unlessRefused oracle k o (refusal (latest (k .taken)) (length (k .taken)) o)) → stops (verdict v) ≡ false → UnbrokenTurn k o (unlessBroken oracle k o v)

@@ -2,7 +2,7 @@
 -- Assumes nothing.
 use mathlib.Core.Path.{_≡_}
 use mathlib.Core.Bool.{Bool, true, false}
-use mathlib.Core.Option.{some}
+use mathlib.Core.Option.{none, some}
 use mathlib.Core.List.{List}
 use Prim.Native.Nat.{ℕ, zero, suc, _*_, _≤_, _<_}
 use Rattle.pattern.specs.Judge.{Oracle, Right, Verdict, allWhole, someOpen, brokenAt, timeOf, refusal, nothing}
@@ -26,13 +26,21 @@ abbrev pub timeBefore : List ℕ → ℕ → ℕ
 timeBefore log zero = 0
 timeBefore log (suc i) = timeOf (recordAt log i)
 
--- n records under whatever table: whole or open, and all are taken; or record i breaks a rule, and is the last one taken; or it is refused, by the names and times of the log alone. Which of
--- these, and the masks, are the table's affair
-pub data Played (log : List ℕ) (n : ℕ) (r : Outcome) : Type 0 where
-  stays-whole : r ≡ ended allWhole n → Played log n r
-  stays-open : (mask : ℕ) → r ≡ ended (someOpen mask) n → Played log n r
-  breaks : (i mask : ℕ) → i < n → r ≡ ended (brokenAt (suc i) mask) (suc i) → Played log n r
-  refuses : (i number : ℕ) (before : Verdict) → i < n → refusal (timeBefore log i) i (recordAt log i) ≡ some number → r ≡ refusedAt number before i (5 * i) → Played log n r
+-- no record before record i is refused, by the names and times of the log alone
+abbrev pub Accepted : List ℕ → ℕ → Type 0
+Accepted log i = (j : ℕ) → j < i → refusal (timeBefore log j) j (recordAt log j) ≡ none
+
+-- how a run of n records ends: whole or open, and all are taken; or record i breaks a rule, and is the last one taken; or it is refused, by the names and times of the log alone
+pub data Ends (log : List ℕ) (n : ℕ) (r : Outcome) : Type 0 where
+  stays-whole : r ≡ ended allWhole n → Ends log n r
+  stays-open : (mask : ℕ) → r ≡ ended (someOpen mask) n → Ends log n r
+  breaks : (i mask : ℕ) → i < n → r ≡ ended (brokenAt (suc i) mask) (suc i) → Ends log n r
+  refuses : (i number : ℕ) (before : Verdict) → i < n → refusal (timeBefore log i) i (recordAt log i) ≡ some number → r ≡ refusedAt number before i (5 * i) → Ends log n r
+
+-- n records under whatever table: where none is to be refused, the table has the say of how the run ends, and of the masks
+pub record Played (log : List ℕ) (n : ℕ) (r : Outcome) : Type 0 where
+  pub accepted : Accepted log (r .taken)
+  pub ends : Ends log n r
 
 pub record Runs (table log : List ℕ) (budget : ℕ) (r : Outcome) : Type 0 where
   -- for every table: 14 exactly where the log is no list of records; else its records are played, up to the budget
