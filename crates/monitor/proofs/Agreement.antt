@@ -88,6 +88,7 @@ module _ (S : Sheet) (formed : WellFormedSheet S) where
 -- what the code's fresh monitor promises follows from what its words hold
 pub fresh-promise : (m : List ℕ) → Holds m freshHeld → Freshes inWords m
 fresh-promise m h = record {
+  fits = h .long;
   holds = h .held;
   blank = h .spare ∙ ap lastWord (sym (h .held));
   follows = λ S b formed looks. record {

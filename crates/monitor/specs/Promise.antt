@@ -102,6 +102,7 @@ module _ {X : Type 0} (F : Form X) where
 
   -- a fresh monitor: it is the same for every book, and follows the judge that has kept nothing
   pub record Freshes (m : X) : Type 0 where
+    pub fits : F .Fits m
     pub holds : F .held m ≡ freshHeld
     pub blank : F .Blank m
     pub follows : (S : Sheet) (b : Book) → WellFormedSheet S → Looks S b → Follows S nothing b m

@@ -35,11 +35,17 @@ pub record Going (log m : List ℕ) (i : ℕ) : Type 0 where
   pub latest : heldBy m .latest ≡ timeBefore log i
   pub accepted : Accepted log i
 
-pub going-start : {log m : List ℕ} → length m ≡ 34 → Freshes inWords m → Going log m 0
+pub going-start : {log m : List ℕ} → Freshes inWords m → Going log m 0
 unfolding freshHeld
-going-start fits fresh =
+going-start fresh =
     let e = fresh .holds in
-    record { fits = fits; runs = λ z. omega (arith, ap (λ (h : Held). h .verdict) e); taken = ap (λ (h : Held). h .taken) e; latest = ap (λ (h : Held). h .latest) e; accepted = λ j h. absurd (omega arith) }
+    record {
+      fits = fresh .fits;
+      runs = λ z. omega (arith, ap (λ (h : Held). h .verdict) e);
+      taken = ap (λ (h : Held). h .taken) e;
+      latest = ap (λ (h : Held). h .latest) e;
+      accepted = λ j h. absurd (omega arith);
+    }
 
 pub accepted-more : (log : List ℕ) (i : ℕ) → Accepted log i → refusal (timeBefore log i) i (recordAt log i) ≡ none → Accepted log (suc i)
 accepted-more log i all here j h = below-more (λ (j : ℕ). refusal (timeBefore log j) j (recordAt log j) ≡ none) i all here j (omega arith)

@@ -85,10 +85,10 @@ pub record Playing (table log : List ℕ) (n : ℕ) (m : List ℕ) (i : ℕ) : T
   pub going : Going log m i
   pub judged : UnderBook table (λ oracle S b. Reached oracle S b log n m i)
 
-pub start : {table log : List ℕ} {n : ℕ} {m : List ℕ} → length m ≡ 34 → Freshes inWords m → Playing table log n m 0
-start {log = log} fits fresh = record {
+pub start : {table log : List ℕ} {n : ℕ} {m : List ℕ} → Freshes inWords m → Playing table log n m 0
+start {log = log} fresh = record {
   within = omega arith;
-  going = going-start fits fresh;
+  going = going-start fresh;
   judged = λ S b formed looks lent oracle right. record { k = nothing; follows = fresh .follows S b formed looks; rest = ap (play oracle log nothing 0) (omega arith) };
 }
 

@@ -42,4 +42,4 @@ module _ {table before after : List ℕ} {m next : Monitor} {o : Observation} {a
   }
 
 pub starts : {w : List ℕ} {m : Monitor} → Freshes inWords w → numbersOf m ≡ heldBy w → Freshes byValue m
-starts {w} {m} f e = record { holds = e ∙ f .holds; blank = tt; follows = λ S b formed looks. of-words S _ b m w e (f .follows S b formed looks) }
+starts {w} {m} f e = record { fits = tt; holds = e ∙ f .holds; blank = tt; follows = λ S b formed looks. of-words S _ b m w e (f .follows S b formed looks) }
