@@ -1,9 +1,11 @@
-"""The bytes of the intercom's sheets and logs, made from the text files beside this script.
+"""Sheets and logs as bytes, made from text files. The notation is in README.md beside this script.
 
-    python3 make.py FOLDER      writes SHEET.lob, LOG.lot and due.txt there
+    python3 make.py FOLDER [FILE..]     writes SHEET.lob, LOG.lot and due.txt to FOLDER
 
-A line of due.txt is: log, sheet, answer, refusal, mask, taken, place. It is the 'due' line of the
-text file as numbers; nothing here judges a log. The notation of the text files is in README.md.
+Without a FILE it takes the intercom's five. All files are read before anything is written: at the first fault of a text it says file, line and reason, writes
+nothing, and ends with status 1. A sheet that is written keeps document 01's layout: the guard accepts it.
+
+A line of due.txt is: log, sheet, answer, refusal, mask, taken, place. It is the 'due' line of the text file as numbers; nothing here judges a log.
 """
 
 import os
@@ -13,13 +15,41 @@ import sys
 from collections import namedtuple
 
 HERE = os.path.dirname(os.path.abspath(__file__))
-FILES = ('ipu.txt', 'lcdc.txt', 'sen.txt', 'cpu.txt', 'tmr.txt')
+FILES = tuple(os.path.join(HERE, name) for name in ('ipu.txt', 'lcdc.txt', 'sen.txt', 'cpu.txt', 'tmr.txt'))
 CLOCK = 0xFF
 KINDS = {'once': 0, 'each': 1, 'within': 2}
-ANSWERS = {'whole': 0, 'open': 1, 'broken': 2}
+SIGNS = {'once': '<<', 'each': '<<', 'within': '=>'}
 JOINS = {'all': 0, 'any': 1}
+ANSWERS = {'whole': 0, 'open': 1, 'broken': 2}
+MOST_TIME = 4294967295
+MOST_RECORDS = 1000000          # of a log made here; the program takes 13,107 of them, the host call more
+NAME = r'[^\W\d][\w-]*'         # a letter, then letters, digits, - and _
 
 Due = namedtuple('Due', 'sheet answer count refs')      # count: the records taken; refs: rules of the mask
+
+
+class Fault(Exception):
+    """What is wrong with a line, in plain words. Where it is another line than the one being read, `line` is its number."""
+
+    def __init__(self, reason, line=None):
+        super().__init__(reason)
+        self.reason, self.line = reason, line
+
+
+class BadFile(Exception):
+    """What is wrong with a file, its name and the line included."""
+
+
+def need(condition, reason, *words):
+    if not condition:
+        raise Fault(reason % words)
+
+
+def number(text, what, low, high):
+    need(re.fullmatch('[0-9]+', text), '%s: %s is a number, in decimal', text, what)
+    digits = text.lstrip('0') or '0'
+    need(len(digits) <= 10 and low <= int(digits) <= high, '%s: %s is %d to %d', text, what, low, high)
+    return int(digits)
 
 
 class Log:
@@ -33,52 +63,110 @@ class Component:
     def __init__(self):
         self.numbers, self.outputs = {}, 0
         self.sheets, self.parts, self.logs = {}, {}, {}
+        self.lines = {}         # the line of each sheet and log, by the name of its file
         self.rules = None       # of the sheet that is being read
+        self.part = None        # the name of the part that is being read
         self.records = None     # of the part or log that is being read
         self.dues = None        # of the log that is being read
 
     # -- names
 
-    def line_in(self, number, name):
-        self.numbers[name] = int(number)
+    def line_in(self, words):
+        """in NUMBER NAME"""
+        text, name = words
+        n = number(text, "a name's number", 0, 63)
+        need(re.fullmatch(NAME, name), '%s: a name is a letter, then letters, digits, - and _', name)
+        need(name not in ('clock', 'part') and not re.fullmatch(r'x[0-9]+', name), '%s has a meaning of its own in a log and cannot be a name', name)
+        need(name not in self.numbers, 'the name %s is there already', name)
+        taken = [other for other, m in self.numbers.items() if m == n]
+        need(not taken, 'the number %d is there already: it is %s', n, ''.join(taken))
+        self.numbers[name] = n
+        return n
 
-    def line_out(self, number, name):
-        self.numbers[name] = int(number)
-        self.outputs |= 1 << int(number)
+    def line_out(self, words):
+        """out NUMBER NAME"""
+        self.outputs |= 1 << self.line_in(words)
+
+    def number_of(self, name):
+        need(name in self.numbers, "the name %s is unknown: no 'in' or 'out' line above has it", name)
+        return self.numbers[name]
+
+    def is_output(self, name):
+        return self.outputs >> self.number_of(name) & 1 == 1
 
     # -- sheets
 
-    def line_sheet(self, name):
+    def line_sheet(self, words):
+        """sheet NAME"""
+        name, = words
+        self.file_of(name, '.lob', 'sheet')
         self.rules = self.sheets[name] = {}
 
-    def line_rule(self, ref, kind, *rest):
-        self.rules[ref] = self.rule_bytes(KINDS[kind], list(rest))
+    def file_of(self, name, ending, what):
+        need(re.fullmatch(NAME, name), '%s: the name of a %s is a letter, then letters, digits, - and _', name, what)
+        need(name + ending not in self.lines, 'the %s %s is there already', what, name)
+        self.lines[name + ending] = self.line
 
-    def rule_bytes(self, kind, rest):
-        """once P << i, each P << i, within T P => Q"""
-        if kind == 2:
-            t, (p, q) = int(rest[0]), ' '.join(rest[1:]).split(' => ')
-            p, q, trigger = self.ordering(p), self.ordering(q), 0
+    def line_rule(self, words):
+        """rule NAME once P << i, rule NAME each P << i, rule NAME within T P => Q"""
+        ref, kind, rest = words[0], words[1], ' '.join(words[2:])
+        need(self.rules is not None, "a rule stands below a 'sheet' line")
+        need(ref not in self.rules, 'the rule %s is there already', ref)
+        need(':' not in ref, '%s: a rule has no : in its name', ref)
+        need(len(self.rules) < 16, 'the sheet has 16 rules already, and no sheet has more')
+        need(kind in KINDS, '%s: a rule is once, each or within', kind)
+        self.rules[ref] = self.rule_bytes(kind, rest)
+
+    def rule_bytes(self, kind, text):
+        """P << i, or T P => Q"""
+        t, trigger, used = 0, 0, set()
+        if kind == 'within':
+            time, _, text = text.partition(' ')
+            t = number(time, 'the time of within', 0, MOST_TIME)
+        sides = re.split('<<|=>', text)
+        need(len(sides) == 2 and SIGNS[kind] in text, '%s: %s has one %s, with something on each side', text.strip() or 'nothing', kind, SIGNS[kind])
+        if kind == 'within':
+            p, q = self.ordering(sides[0], used), self.ordering(sides[1], used, True)
         else:
-            p, name = ' '.join(rest).split(' << ')
-            p, q, trigger, t = self.ordering(p), [], self.numbers[name], 0
-        return struct.pack('<BBBBI', kind, len(p), len(q), trigger, t) + b''.join(p + q)
+            name = sides[1].strip()
+            need(re.fullmatch(NAME, name), '%s: after << stands the trigger, one name', name or 'nothing')
+            trigger = self.number_of(name)
+            need(not self.is_output(name), '%s is an output, and a trigger is an input', name)
+            used.add(name)
+            p, q = self.ordering(sides[0], used), []
+        return struct.pack('<BBBBI', KINDS[kind], len(p), len(q), trigger, t) + b''.join(p + q)
 
-    def ordering(self, text):
-        return [self.fragment(f.strip()) for f in text.split(' < ')]
+    def ordering(self, text, used, in_q=False):
+        fragments = text.split('<')
+        need(len(fragments) <= 8, 'an ordering has at most 8 fragments, and this one has %d', len(fragments))
+        return [self.fragment(f.strip(), used, in_q) for f in fragments]
 
-    def fragment(self, text):
+    def fragment(self, text, used, in_q):
         """all{range, ..}, any{range, ..} or a range alone"""
+        need(text, 'a fragment is missing beside <, << or =>')
         join, ranges = 'all', [text]
-        if text[:4] in ('all{', 'any{'):
-            join, ranges = text[:3], text[4:-1].split(', ')
-        return bytes([JOINS[join], len(ranges)]) + b''.join(self.range(r) for r in ranges)
+        if '{' in text or '}' in text:
+            parts = re.fullmatch(r'(all|any) ?\{([^{}]*)\}', text)
+            need(parts, '%s: a fragment is all{..}, any{..} or one range', text)
+            join, ranges = parts[1], re.split(r',(?![^\[]*\])', parts[2])
+        need(len(ranges) <= 8, 'a fragment has at most 8 ranges, and this one has %d', len(ranges))
+        return bytes([JOINS[join], len(ranges)]) + b''.join(self.range(r.strip(), used, in_q) for r in ranges)
 
-    def range(self, text):
+    def range(self, text, used, in_q):
         """name, name+ or name[u,v]"""
-        name, plus, u, v = re.fullmatch(r'([\w-]+)(\+)?(?:\[(\d+),(\d+)\])?', text).groups()
-        bounds = (1, 65535) if plus else (int(u or 1), int(v or 1))
-        return struct.pack('<BHH', self.numbers[name], *bounds)
+        parts = re.fullmatch('(' + NAME + r')(\+|\[ ?(\w+) ?, ?(\w+) ?\])?', text)
+        need(parts, '%s: a range is a name, name+ or name[u,v]', text or 'nothing')
+        name, bounds, u, v = parts.groups()
+        n = self.number_of(name)
+        need(name not in used, '%s is twice in the rule', name)
+        need(not in_q or self.is_output(name), '%s is an input, and what stands behind => are outputs', name)
+        used.add(name)
+        if bounds in (None, '+'):
+            u, v = 1, 65535 if bounds else 1
+        else:
+            u = number(u, 'u of a range', 1, 65535)
+            v = number(v, 'v of a range', u, 65535)
+        return struct.pack('<BHH', n, u, v)
 
     def sheet_bytes(self, name):
         rules = self.sheets[name].values()
@@ -86,32 +174,67 @@ class Component:
 
     # -- runs
 
-    def line_part(self, name):
+    def line_part(self, words):
+        """part NAME"""
+        name, = words
+        need(re.fullmatch(NAME, name), '%s: the name of a part is a letter, then letters, digits, - and _', name)
+        need(name not in self.parts, 'the part %s is there already', name)
         self.records = self.parts[name] = []
+        self.part, self.dues = name, None
 
-    def line_log(self, name):
+    def line_log(self, words):
+        """log NAME"""
+        name, = words
+        self.file_of(name, '.lot', 'log')
         log = self.logs[name] = Log()
-        self.records, self.dues = log.records, log.dues
+        self.part, self.records, self.dues = None, log.records, log.dues
 
-    def line_due(self, sheet, answer, _, count, *refs):
-        """whole after N, open after N: REF.., broken at N: REF.."""
-        self.dues.append(Due(sheet, answer, int(count.rstrip(':')), refs))
+    def line_due(self, words):
+        """due SHEET whole after N, due SHEET open after N: RULE.., due SHEET broken at N: RULE.."""
+        sheet, answer, at, count, *refs = words
+        need(self.dues is not None, "a 'due' line stands below a 'log' line")
+        need(sheet in self.sheets, 'the sheet %s is unknown: no line above has it', sheet)
+        need(all(due.sheet != sheet for due in self.dues), 'the log has a verdict by sheet %s already', sheet)
+        need(answer in ANSWERS, '%s: a verdict is whole, open or broken', answer)
+        due_at = 'at' if answer == 'broken' else 'after'
+        need(at == due_at, '%s: %s is followed by %s and a number of records', at, answer, due_at)
+        if answer == 'whole':
+            need(not refs and not count.endswith(':'), 'whole names no rule')
+        else:
+            need(refs and count.endswith(':'), "%s needs its rules: 'due %s %s %s %s: RULE ..'", answer, sheet, answer, at, count.rstrip(':'))
+        for i, ref in enumerate(refs):
+            need(ref in self.sheets[sheet], 'the sheet %s has no rule %s', sheet, ref)
+            need(ref not in refs[:i], 'the rule %s is named twice', ref)
+        self.dues.append(Due(sheet, answer, number(count.rstrip(':'), 'the number of records', 0, MOST_TIME), tuple(refs)))
 
-    def line_why(self, *_):
-        """for the reader"""
+    def line_why(self, words):
+        """why REASON: for the reader"""
 
-    def line_calls(self, time, *words):
-        """part NAME, clock, or names with xCOUNT: that many times in turn"""
+    def line_calls(self, words):
+        """TIME part NAME, TIME clock, or TIME NAME.. xCOUNT: that many times in turn"""
+        time, *words = words
+        time = number(time, 'a time', 0, MOST_TIME)
+        need(self.records is not None, "a record stands below a 'log' or a 'part' line")
+        need(words, 'a time, and no name, clock or part behind it')
         if words[0] == 'part':
-            self.records += [(name, time + at) for name, at in self.parts[words[1]]]
-            return
-        count = 1
-        if re.fullmatch(r'x\d+', words[-1]):
-            count, words = int(words[-1][1:]), words[:-1]
-        self.records += [(self.number(name), time) for name in words] * count
+            records, count = self.part_records(words[1:], time), 1
+        else:
+            count = 1
+            if re.fullmatch(r'x[0-9]+', words[-1]):
+                count = number(words.pop()[1:], 'the count behind x', 1, MOST_RECORDS)
+                need(words, 'a count, and no name before it')
+            records = [(CLOCK if name == 'clock' else self.number_of(name), time) for name in words]
+        need(len(self.records) + count * len(records) <= MOST_RECORDS, 'a log or part made here has at most %d records', MOST_RECORDS)
+        self.records += records * count
 
-    def number(self, name):
-        return CLOCK if name == 'clock' else self.numbers[name]
+    def part_records(self, words, time):
+        need(len(words) == 1, "'part' is followed by the name of one part")
+        name, = words
+        need(name in self.parts, 'the part %s is unknown: no line above has it', name)
+        need(name != self.part, 'the part %s is used inside itself', name)
+        records = [(call, time + at) for call, at in self.parts[name]]
+        need(all(at <= MOST_TIME for _, at in records), 'the part %s ends after the last time, %d', name, MOST_TIME)
+        return records
 
     def due_line(self, name, due):
         refs = list(self.sheets[due.sheet])
@@ -119,25 +242,49 @@ class Component:
         place = due.count if due.answer == 'broken' else 0
         return '%s %s %d 0 %d %d %d\n' % (name, due.sheet, ANSWERS[due.answer], mask, due.count, place)
 
+    # -- lines
 
-def read_line(component, line):
-    words = line.split('#')[0].split()
-    if not words:
-        return
-    if words[0].isdigit():
-        component.line_calls(int(words[0]), *words[1:])
-    else:
-        getattr(component, 'line_' + words[0])(*words[1:])
+    LINES = {'in': line_in, 'out': line_out, 'sheet': line_sheet, 'rule': line_rule, 'part': line_part, 'log': line_log, 'due': line_due, 'why': line_why}
+    LENGTHS = {'in': (2, 2), 'out': (2, 2), 'sheet': (1, 1), 'rule': (3, None), 'part': (1, 1), 'log': (1, 1), 'due': (4, None), 'why': (0, None)}
+
+    def read_line(self, line_number, line):
+        self.line = line_number
+        words = line.split('#')[0].split()
+        if not words:
+            return
+        if words[0][0] in '0123456789':
+            return self.line_calls(words)
+        need(words[0] in self.LINES, '%s: a line begins with a time or with one of %s', words[0], ', '.join(self.LINES))
+        method, (least, most) = self.LINES[words[0]], self.LENGTHS[words[0]]
+        need(least <= len(words) - 1 and (most is None or len(words) - 1 <= most), 'the form of this line is: %s', method.__doc__)
+        method(self, words[1:])
+
+    def finish(self):
+        """What is known at the end of the text only."""
+        for name, rules in self.sheets.items():
+            if not rules:
+                raise Fault('the sheet %s has no rule' % name, self.lines[name + '.lob'])
+
+
+def text_of(file):
+    try:
+        with open(file, encoding='utf-8') as f:
+            return f.read().splitlines()
+    except OSError as fault:
+        raise BadFile('%s: cannot be read: %s' % (file, fault.strerror)) from None
+    except UnicodeDecodeError:
+        raise BadFile('%s: is no text in UTF-8' % file) from None
 
 
 def read(file):
-    component = Component()
-    with open(os.path.join(HERE, file)) as f:
-        for number, line in enumerate(f, 1):
-            try:
-                read_line(component, line)
-            except (AttributeError, KeyError, TypeError, ValueError) as fault:
-                sys.exit('%s:%d: %s: %r' % (file, number, line.strip(), fault))
+    component, lines = Component(), text_of(file)
+    try:
+        for line_number, line in enumerate(lines, 1):
+            component.read_line(line_number, line)
+        component.finish()
+    except Fault as fault:
+        at = fault.line or component.line
+        raise BadFile('%s:%d: %s\n    %s' % (file, at, fault.reason, lines[at - 1].strip())) from None
     return component
 
 
@@ -159,16 +306,45 @@ def due_lines(component):
             yield component.due_line(name, due)
 
 
-def everything():
-    """All files, by name."""
-    components = [read(file) for file in FILES]
-    files = dict(pair for c in components for pair in made(c))
-    files['due.txt'] = ''.join(line for c in components for line in due_lines(c)).encode()
-    return files
+def everything(files=FILES):
+    """All that the files make, by name."""
+    out, owner, due = {}, {}, []
+    for file in files:
+        component = read(file)
+        for name, data in made(component):
+            if name in out:
+                what = 'sheet' if name.endswith('.lob') else 'log'
+                raise BadFile('%s:%d: the %s %s is there already, in %s' % (file, component.lines[name], what, name[:-4], owner[name]))
+            out[name], owner[name] = data, file
+        due += due_lines(component)
+    out['due.txt'] = ''.join(due).encode()
+    return out
+
+
+def write(folder, files):
+    try:
+        os.makedirs(folder, exist_ok=True)
+        for name, data in files.items():
+            with open(os.path.join(folder, name), 'wb') as f:
+                f.write(data)
+    except OSError as fault:
+        raise BadFile('%s: cannot be written: %s' % (fault.filename or folder, fault.strerror)) from None
+
+
+def main(arguments):
+    if arguments in (['-h'], ['--help']):
+        print(__doc__.strip())
+        return 0
+    if not arguments or arguments[0].startswith('-'):
+        sys.stderr.write('usage: python3 make.py FOLDER [FILE..]\n')
+        return 2
+    try:
+        write(arguments[0], everything(arguments[1:] or FILES))
+    except BadFile as fault:
+        sys.stderr.write('%s\n' % fault)
+        return 1
+    return 0
 
 
 if __name__ == '__main__':
-    os.makedirs(sys.argv[1], exist_ok=True)
-    for name, data in everything().items():
-        with open(os.path.join(sys.argv[1], name), 'wb') as f:
-            f.write(data)
+    sys.exit(main(sys.argv[1:]))
