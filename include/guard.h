@@ -19,22 +19,23 @@ enum {
     GUARD_REFUSED = 3  /* nothing has changed; `refusal` says why */
 };
 
-/* Refusals, "Where each refusal is found". 1 to 10 are a sheet's, 11 to 13 an observation's, 14 a log's, 15 an output's. */
+/* Refusals, "Where each refusal is found". 1 to 10 are a sheet's, 11 to 13 an observation's, 14 a log's, 15 an output's. docs/SHEETS.md has an example of each, and `./run` takes
+ * its words from this table. */
 enum {
     GUARD_TRUNCATED = 1,      /* a field doesn't fit in the bytes left */
     GUARD_MARK = 2,           /* the mark is not "LOB" */
     GUARD_VERSION = 3,        /* the version is not 1 */
     GUARD_VALUE = 4,          /* a count, kind or join outside its values */
-    GUARD_NOT_ZERO = 5,       /* a Q count, trigger or t where 0 is due */
+    GUARD_NOT_ZERO = 5,       /* a Q count, trigger or t that is not 0 where 0 is due */
     GUARD_NAME = 6,           /* a trigger or a range's name above 63 */
     GUARD_BOUNDS = 7,         /* u is 0, or v < u */
     GUARD_NAME_TWICE = 8,     /* a range's name is already in the rule */
     GUARD_DIRECTION = 9,      /* a trigger that is an output, or a name of Q that is an input */
     GUARD_LEFT_OVER = 10,     /* bytes after the last rule */
-    GUARD_TIME_FALLS = 11,    /* an observation before the latest one */
-    GUARD_NAME_UNKNOWN = 12,  /* an observation's name of 64 or more */
+    GUARD_TIME_FALLS = 11,    /* a time before the latest one */
+    GUARD_NAME_UNKNOWN = 12,  /* a name of 64 or more */
     GUARD_COUNT_FULL = 13,    /* 4,294,967,295 observations are already taken */
-    GUARD_LOG_LENGTH = 14,    /* the log is no list of 5-byte records */
+    GUARD_LOG_LENGTH = 14,    /* the log's length is no multiple of 5, or above 4,294,967,295 bytes */
     GUARD_OUTPUT = 15         /* the output has under 12 bytes */
 };
 
