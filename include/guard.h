@@ -1,5 +1,6 @@
 /* The guard for C and C++ hosts: one call over a stored log, and a live session over memory that the host lends.
- * Link with target/staticlib/libhost.a, which `hosts/build` proves and writes (x86-64). docs/EMBEDDING.md says what is proved, and what the host must keep true. */
+ * Link with target/staticlib/libhost.a, which `hosts/build` proves and writes (x86-64). docs/EMBEDDING.md says what a host does at each answer, what is proved, and what the
+ * host must keep true; docs/SHEETS.md has the formats of sheets and logs, and every refusal with an example. */
 #ifndef GUARD_H
 #define GUARD_H
 

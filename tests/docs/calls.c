@@ -1,0 +1,93 @@
+/* The library's calls for examples.py: a line in, a line out.
+ *
+ *     run SHEET LOG OUTPUT            guard_run with an output of that many bytes: what it returns, then all 16 bytes of the buffer, which was filled with A5
+ *     live SHEET TAKEN NAME@TIME ..   a session that has taken so many before: for the opening and each observation ANSWER:REFUSAL:MASK:PLACE, then the taken count
+ *
+ * Bytes are in hexadecimal, - for none; the name c is a reading of the clock. */
+#include "guard.h"
+#include <stdio.h>
+#include <stdlib.h>
+#include <string.h>
+
+static uint8_t sheet[1 << 16], records[1 << 17];
+
+static size_t bytes_of(const char *word, uint8_t *bytes, size_t most)
+{
+    size_t n = strcmp(word, "-") == 0 ? 0 : strlen(word) / 2;
+    if (n > most)
+        exit(2);
+    for (size_t i = 0; i < n; i++) {
+        char pair[3] = {word[2 * i], word[2 * i + 1], 0};
+        bytes[i] = (uint8_t)strtoul(pair, NULL, 16);
+    }
+    return n;
+}
+
+static char *word(void)
+{
+    char *w = strtok(NULL, " \n");
+    if (w == NULL)
+        exit(2);
+    return w;
+}
+
+static void run(void)
+{
+    uint8_t out[16];
+    size_t n = bytes_of(word(), sheet, sizeof sheet), k = bytes_of(word(), records, sizeof records);
+    memset(out, 0xA5, sizeof out);
+    printf("%u ", (unsigned)guard_run(sheet, n, records, k, UINT32_MAX, out, (size_t)strtoul(word(), NULL, 10)));
+    for (size_t i = 0; i < sizeof out; i++)
+        printf("%02X", out[i]);
+    printf("\n");
+}
+
+/* The monitor's layout is the guard's own: the count is the half word that guard_taken reads. */
+static void set_taken(guard_monitor *monitor, uint32_t taken)
+{
+    uint32_t halves[sizeof *monitor / sizeof(uint32_t)];
+    for (size_t i = 0; i < sizeof halves / sizeof *halves && guard_taken(monitor) != taken; i++) {
+        guard_monitor other;
+        memcpy(halves, monitor, sizeof halves);
+        halves[i] = taken;
+        memcpy(&other, halves, sizeof halves);
+        if (guard_taken(&other) == taken)
+            *monitor = other;
+    }
+}
+
+static void tell(guard_answer a)
+{
+    printf("%u:%u:%u:%u ", (unsigned)a.answer, (unsigned)a.refusal, (unsigned)a.mask, (unsigned)a.place);
+}
+
+static void live(void)
+{
+    static guard_book book;
+    static guard_monitor monitor;
+    size_t n = bytes_of(word(), sheet, sizeof sheet);
+    uint32_t taken = (uint32_t)strtoul(word(), NULL, 10);
+    tell(guard_open(&book, &monitor, sheet, n));
+    set_taken(&monitor, taken);
+    for (char *w = strtok(NULL, " \n"); w != NULL; w = strtok(NULL, " \n")) {
+        uint32_t time = (uint32_t)strtoul(strchr(w, '@') + 1, NULL, 10);
+        tell(w[0] == 'c' ? guard_clock(&book, &monitor, time) : guard_event(&book, &monitor, (uint32_t)strtoul(w, NULL, 10), time));
+    }
+    printf("%u\n", (unsigned)guard_taken(&monitor));
+}
+
+int main(void)
+{
+    static char line[1 << 18];
+    while (fgets(line, sizeof line, stdin) != NULL) {
+        const char *what = strtok(line, " \n");
+        if (what != NULL && strcmp(what, "run") == 0)
+            run();
+        else if (what != NULL && strcmp(what, "live") == 0)
+            live();
+        else
+            return 2;
+        fflush(stdout);
+    }
+    return 0;
+}
