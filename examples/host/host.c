@@ -1,6 +1,5 @@
 /* An example of a host: it runs trace.lot under book.lob, both in the current folder, once by guard_run and once as a live session, call by call, and prints the five numbers.
- * Exit status 1 if the two differ. What a real host does instead of reading a log: guard_event at each call of the plugin, guard_clock by a timer, and it stops the plugin at
- * GUARD_BROKEN.
+ * Exit status 1 if the two differ. It is a test: a real host reads no log, but asks before each call and stops the plugin, as stop.c does.
  *
  *     cc -std=c99 -I include -o host examples/host/host.c target/staticlib/libhost.a
  */
