@@ -45,18 +45,12 @@ fn load(path: &[u8], buf: &mut [u8]) -> usize
     n
 }
 
-// A number and what stands after it.
-fn print(x: u64, after: &[u8]) {
-    io::print_decimal(STDOUT_FILENO, x);
-    io::write_all(STDOUT_FILENO, after);
-}
-
-fn print_all(o: Outcome) {
-    print(o.answer as u64, b" ");
-    print(o.refusal as u64, b" ");
-    print(o.mask as u64, b" ");
-    print(o.taken as u64, b" ");
-    print(o.place as u64, b"\n");
+// Writes the line of the five numbers: what it says is proved, and that it is written is the kit's contract.
+fn print(o: Outcome) {
+    let line = log_line::line_of(o);
+    let bytes = line.bytes;
+    let start = line.start;
+    io::write_all(STDOUT_FILENO, &bytes[start..]);
 }
 
 // One byte more than each limit is read, to see a file that goes beyond it.
@@ -65,5 +59,5 @@ fn main() {
     let mut trace = [0u8; 65536];
     let n = load(b"book.lob", &mut book);
     let k = load(b"trace.lot", &mut trace);
-    print_all(numbers(&book[..n], &trace[..k]));
+    print(numbers(&book[..n], &trace[..k]));
 }
