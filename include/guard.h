@@ -40,6 +40,29 @@ enum {
     GUARD_OUTPUT = 15         /* the output has under 12 bytes */
 };
 
+/* A refusal's text, in one line and without its place; "unknown refusal" for any other number, 0 too. */
+static inline const char *guard_refusal_text(uint32_t number)
+{
+    static const char *const texts[] = {
+        "the sheet is cut off: a field doesn't fit in the bytes left",
+        "the sheet's mark is not \"LOB\"",
+        "the sheet's version is not 1",
+        "a count, kind or join is outside its values",
+        "a Q count, trigger or t is not 0 where 0 is due",
+        "a trigger or a range's name is above 63",
+        "a range's u is 0, or its v is below u",
+        "a range's name is already in the rule",
+        "a trigger is an output, or a name of Q is an input",
+        "bytes are left over after the last rule",
+        "the observation's time is before the latest one",
+        "the observation's name is 64 or more",
+        "4,294,967,295 observations are already taken",
+        "the log's length is no multiple of 5, or above 4,294,967,295",
+        "the output has under 12 bytes",
+    };
+    return number >= GUARD_TRUNCATED && number <= GUARD_OUTPUT ? texts[number - GUARD_TRUNCATED] : "unknown refusal";
+}
+
 /* ---- one call over a log */
 
 #define GUARD_OUTPUT_BYTES 12

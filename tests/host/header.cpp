@@ -2,6 +2,7 @@
 #include "../../include/guard.h"
 
 #include <cstdio>
+#include <cstring>
 
 static_assert(sizeof(guard_book) == 8832 && sizeof(guard_monitor) == 272 && sizeof(guard_answer) == 8, "the sizes that guard.h gives");
 
@@ -22,6 +23,7 @@ int main()
     wrong += guard_taken(&monitor) != 0;
     uint8_t out[GUARD_OUTPUT_BYTES];
     wrong += guard_run(sheet, sizeof sheet, nullptr, 0, 1, out, sizeof out) != 0 || out[0] != GUARD_WHOLE;
-    std::printf("guard.h from C++: %s\n", wrong ? "NOT AS DUE" : "10 as due");
+    wrong += std::strstr(guard_refusal_text(GUARD_MARK), "mark") == nullptr || std::strcmp(guard_refusal_text(16), "unknown refusal") != 0;
+    std::printf("guard.h from C++: %s\n", wrong ? "NOT AS DUE" : "11 as due");
     return wrong != 0;
 }

@@ -146,6 +146,24 @@ static void check_outputs(void)
     tell("outputs of 12 to 80 bytes, as they were from byte 12 on", longer, wrong_longer);
 }
 
+/* Numbers 1 to 15 have a text each, of one line; no other number has. A word of each stands here by hand, so that no text has slipped to its neighbour. */
+static void check_texts(void)
+{
+    static const char *const words[15] = {"cut off",       "mark",      "version",    "kind or join", "not 0", "above 63",      "below u", "already in the rule",
+                                          "Q is an input", "left over", "the latest", "name is 64",   "taken", "multiple of 5", "under 12"};
+    long count = 0, wrong = 0;
+    for (uint32_t n = 1; n <= 15; n++, count++) {
+        const char *text = guard_refusal_text(n);
+        if (strstr(text, words[n - 1]) == NULL || strchr(text, '\n') != NULL || strcmp(text, "unknown refusal") == 0)
+            wrong += differs("a refusal's text", n);
+    }
+    static const uint32_t unknown[] = {0, 16, 17, 23, 255, 256, 257, 271, 2147483648u, ALL};
+    for (size_t i = 0; i < sizeof unknown / sizeof *unknown; i++, count++)
+        if (strcmp(guard_refusal_text(unknown[i]), "unknown refusal") != 0)
+            wrong += differs("the text of a number that is no refusal", (long)unknown[i]);
+    tell("refusals' texts", count, wrong);
+}
+
 int main(int argc, char **argv)
 {
     if (argc != 2) {
@@ -157,6 +175,7 @@ int main(int argc, char **argv)
     read_cases(argv[1]);
     check_calls();
     check_outputs();
+    check_texts();
     check_openings();
     check_traces();
     check_cases();
