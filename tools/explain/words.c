@@ -1,0 +1,180 @@
+/* Sheets, rules and fields in words. The notation of rules is that of examples/intercom. */
+#include "explain.h"
+
+#include <inttypes.h>
+#include <stdio.h>
+
+void print_name(const struct names *names, unsigned name)
+{
+    if (has(names->given, name))
+        printf("%.*s", names->words[name].length, names->words[name].at);
+    else
+        printf("%u", name);
+}
+
+void print_record(const struct names *names, struct record record)
+{
+    if (record.name == CLOCK)
+        printf("a clock reading");
+    else
+        print_name(names, record.name);
+    printf(" at %" PRIu32, record.time);
+}
+
+/* ---- rules */
+
+/* a, a+ for 1 to 65535 times, a[u,v] */
+static void print_range(const struct names *names, const struct range *range)
+{
+    print_name(names, range->name);
+    if (range->u == 1 && range->v == UINT16_MAX)
+        printf("+");
+    else if (range->u != 1 || range->v != 1)
+        printf("[%u,%u]", (unsigned)range->u, (unsigned)range->v);
+}
+
+/* A range alone that is joined all has no braces. Joined any it means the same, and has them since the sheet's byte is another. */
+static void print_fragment(const struct names *names, const struct fragment *fragment)
+{
+    int alone = fragment->join == 0 && fragment->count == 1;
+    printf("%s", alone ? "" : fragment->join == 0 ? "all{" : "any{");
+    for (unsigned i = 0; i < fragment->count; i++) {
+        printf("%s", i > 0 ? ", " : "");
+        print_range(names, &fragment->ranges[i]);
+    }
+    printf("%s", alone ? "" : "}");
+}
+
+static void print_ordering(const struct names *names, const struct fragment *fragments, unsigned count)
+{
+    for (unsigned i = 0; i < count; i++) {
+        printf("%s", i > 0 ? " < " : "");
+        print_fragment(names, &fragments[i]);
+    }
+}
+
+void print_rule(const struct names *names, const struct sheet *sheet, unsigned rule)
+{
+    const struct rule *r = &sheet->rules[rule];
+    printf("rule %u  %s ", rule, r->kind == 0 ? "once" : r->kind == 1 ? "each" : "within");
+    if (r->kind == TIMED)
+        printf("%" PRIu32 " ", r->t);
+    print_ordering(names, r->fragments, r->p_count);
+    printf("%s", r->kind == TIMED ? " => " : " << ");
+    if (r->kind == TIMED)
+        print_ordering(names, r->fragments + r->p_count, r->q_count);
+    else
+        print_name(names, r->trigger);
+    printf("\n");
+}
+
+static void print_set(const char *what, const struct names *names, uint64_t set)
+{
+    const char *before = " ";
+    printf("%s:", what);
+    for (unsigned i = 0; i < NAMES; i++)
+        if (has(set, i)) {
+            printf("%s", before);
+            print_name(names, i);
+            before = ", ";
+        }
+    printf("%s\n", set == 0 ? " none" : "");
+}
+
+/* The directions are the sheet's. Where the file of names has another one, that is said. */
+static void print_directions(const struct names *names, const struct sheet *sheet)
+{
+    uint64_t other = names->given & (names->outputs ^ sheet->outputs), used = names_of_sheet(sheet);
+    print_set("inputs", names, used & ~sheet->outputs);
+    print_set("outputs", names, used & sheet->outputs);
+    if (other != 0)
+        print_set("of the other direction in the file of names", names, other);
+}
+
+void print_sheet(const struct names *names, const struct sheet *sheet)
+{
+    if (sheet->read > 0)
+        print_directions(names, sheet);
+    for (unsigned i = 0; i < sheet->read; i++)
+        print_rule(names, sheet, i);
+}
+
+/* ---- fields */
+
+static void print_where(const struct field *f)
+{
+    static const char *const fields[] = {"mark",        "version", "outputs", "rule count", "after the last rule", "kind", "P count", "Q count", "trigger", "t", "join",
+                                         "range count", "name",    "u",       "v"};
+    if (f->what >= KIND)
+        printf("rule %u, ", f->rule);
+    if (f->what >= JOIN)
+        printf("fragment %u of %u in %s, ", f->fragment, f->fragments, f->in_q ? "Q" : "P");
+    if (f->what >= NAME)
+        printf("range %u of %u, ", f->range, f->ranges);
+    printf("%s: ", fields[f->what]);
+}
+
+static void print_value(const struct names *names, const struct field *f)
+{
+    if (f->what == MARK)
+        printf("%02X %02X %02X", (unsigned)f->value & 255, (unsigned)(f->value >> 8) & 255, (unsigned)(f->value >> 16) & 255);
+    else
+        printf("%" PRIu64, f->value);
+    if ((f->what == NAME || f->what == TRIGGER) && f->value < NAMES && has(names->given, (unsigned)f->value)) {
+        printf(" ");
+        print_name(names, (unsigned)f->value);
+    }
+}
+
+/* What such a field may hold; a v has its u as the lowest. */
+static const char *due(const struct field *f)
+{
+    int timed = f->kind == TIMED;
+    switch (f->what) {
+    case MARK:
+        return "4C 4F 42";
+    case VERSION:
+        return "1";
+    case RULE_COUNT:
+        return "1 to 16";
+    case KIND:
+        return "0, 1 or 2";
+    case Q_COUNT:
+        return timed ? "1 to 8" : "0 in kinds 0 and 1";
+    case TRIGGER:
+        return timed ? "0 in kind 2" : "an input, 0 to 63";
+    case T:
+        return timed ? "any number" : "0 in kinds 0 and 1";
+    case JOIN:
+        return "0 or 1";
+    case P_COUNT:
+    case RANGE_COUNT:
+        return "1 to 8";
+    case NAME:
+        return f->in_q ? "an output, 0 to 63, that the rule does not have yet" : "0 to 63, and not in the rule yet";
+    case U:
+        return "1 to 65535";
+    case V:
+        return "from u to 65535";
+    default:
+        return "any number";
+    }
+}
+
+void print_field(const struct names *names, const struct field *f)
+{
+    printf("  ");
+    print_where(f);
+    if (f->what == LEFT_OVER)
+        printf("found %zu more, the first is %u; due none", f->left, (unsigned)f->value);
+    else if (f->left < f->size)
+        printf("found %zu of its %zu bytes", f->left, f->size);
+    else {
+        printf("found ");
+        print_value(names, f);
+        printf("; due %s", due(f));
+    }
+    if (f->what == V && f->left >= f->size)
+        printf(", u is %u", f->u);
+    printf("\n");
+}
