@@ -1,8 +1,8 @@
-//! Links libhost.a: from GUARD_LIB_DIR, or else from where `hosts/build` writes it in this repository.
+//! Links libhost.a: from GUARD_LIB_DIR, or else from where `hosts/build` writes it in this repository. Where it is not there, this says so and goes on, since `cargo doc` and
+//! `cargo check` don't need it; whatever links then fails, by the compiler's "could not find native static library".
 
 use std::env;
 use std::path::{Path, PathBuf};
-use std::process::exit;
 
 fn main() {
     println!("cargo:rerun-if-env-changed=GUARD_LIB_DIR");
@@ -13,11 +13,10 @@ fn main() {
     };
     let library = folder.join("libhost.a");
     if !library.is_file() {
-        eprintln!(
-            "{} is not there: run `hosts/build` in the repository, or set GUARD_LIB_DIR to the folder that has libhost.a",
+        println!(
+            "cargo:warning={} is not there, and linking will fail: run `hosts/build` in the repository, or set GUARD_LIB_DIR to the folder that has libhost.a",
             library.display()
         );
-        exit(1);
     }
     println!("cargo:rerun-if-changed={}", library.display());
     println!("cargo:rustc-link-search=native={}", folder.display());

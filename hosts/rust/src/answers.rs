@@ -1,8 +1,13 @@
 //! What the guard answers: a verdict, or a refusal.
 
-use std::fmt;
+use core::fmt;
+
+/// The library's number for a refusal.
+const REFUSED: u8 = 3;
 
 /// The verdict on everything seen so far.
+///
+/// Document 01 has these three and no others, so that a host's `match` can name each: a verdict that it passes over by `_` could be the break.
 ///
 /// A mask has bit r for rule r of the sheet, in file order from 0; [`rules`](Verdict::rules) gives the numbers.
 #[derive(Clone, Copy, Debug, PartialEq, Eq, Hash)]
@@ -64,6 +69,8 @@ impl fmt::Display for Verdict {
 ///
 /// A sheet's `place` is the offset of the first faulty field. An observation's is the refused record's offset in its log, and `None` in a live session.
 ///
+/// Later versions of the guard refuse for more reasons, so that a `match` needs an arm for the rest.
+///
 /// ```
 /// use guard::{Book, Refusal};
 /// let refusal = Book::open(b"LOB\x02\x00").unwrap_err();
@@ -72,6 +79,7 @@ impl fmt::Display for Verdict {
 /// assert_eq!(refusal.to_string(), "refusal 3 at byte 3: the sheet's version is not 1");
 /// ```
 #[derive(Clone, Copy, Debug, PartialEq, Eq, Hash)]
+#[non_exhaustive]
 #[allow(missing_docs)] // the fields, which are said above
 pub enum Refusal {
     /// 1: a field doesn't fit in the bytes left.
@@ -104,12 +112,13 @@ pub enum Refusal {
     LogLength,
     /// 15: the output has under 12 bytes. [`run`](crate::run) has an output of its own, so that this never comes from here.
     OutputShort,
+    /// An answer or a refusal's number that this package doesn't know, as the library gave them: the library is of another version. What has changed isn't known. Take it as a
+    /// reason to stop the plugin.
+    Unknown { answer: u8, number: u8, place: Option<u32> },
 }
 
 impl Refusal {
     /// The refusal of a number at a place, as the library gives them.
-    ///
-    /// Panics for a number that document 01 doesn't have: the library is then not the one that this package was made for.
     pub(crate) fn of(number: u8, place: Option<u32>) -> Refusal {
         let at = place.unwrap_or(0);
         match number {
@@ -128,7 +137,19 @@ impl Refusal {
             13 => Refusal::CountFull,
             14 => Refusal::LogLength,
             15 => Refusal::OutputShort,
-            other => panic!("libhost.a gave refusal {other}, which this package doesn't know"),
+            _ => Refusal::Unknown {
+                answer: REFUSED,
+                number,
+                place,
+            },
+        }
+    }
+
+    /// The library's number for the answer that a refusal is.
+    pub(crate) fn answer(self) -> u8 {
+        match self {
+            Refusal::Unknown { answer, .. } => answer,
+            _ => REFUSED,
         }
     }
 
@@ -151,10 +172,11 @@ impl Refusal {
             CountFull => (13, None, "4,294,967,295 observations are already taken"),
             LogLength => (14, None, "the log's length is no multiple of 5, or above 4,294,967,295"),
             OutputShort => (15, None, "the output has under 12 bytes"),
+            Unknown { number, place, .. } => (number, place, "the library's answer is not known to this package"),
         }
     }
 
-    /// Document 01's number, 1 to 15.
+    /// Document 01's number, 1 to 15; for one that isn't known, the library's.
     pub fn number(self) -> u8 {
         self.parts().0
     }
@@ -173,6 +195,9 @@ impl Refusal {
 impl fmt::Display for Refusal {
     fn fmt(&self, f: &mut fmt::Formatter<'_>) -> fmt::Result {
         let (number, place, explanation) = self.parts();
+        if let Refusal::Unknown { answer, .. } = self {
+            write!(f, "answer {answer}, ")?;
+        }
         match place {
             Some(place) => write!(f, "refusal {number} at byte {place}: {explanation}"),
             None => write!(f, "refusal {number}: {explanation}"),
@@ -180,24 +205,29 @@ impl fmt::Display for Refusal {
     }
 }
 
-impl std::error::Error for Refusal {}
+impl core::error::Error for Refusal {}
 
-/// A verdict or a refusal from the four numbers of an answer.
-///
-/// Panics for an answer that document 01 doesn't have.
+/// A verdict or a refusal from the numbers of an answer.
 pub(crate) fn answer_of(answer: u8, refusal: u8, mask: u16, at: u32, place: Option<u32>) -> Result<Verdict, Refusal> {
     match answer {
         0 => Ok(Verdict::Whole),
         1 => Ok(Verdict::Open { mask }),
         2 => Ok(Verdict::Broken { at, mask }),
-        3 => Err(Refusal::of(refusal, place)),
-        other => panic!("libhost.a gave answer {other}, which this package doesn't know"),
+        REFUSED => Err(Refusal::of(refusal, place)),
+        _ => Err(Refusal::Unknown {
+            answer,
+            number: refusal,
+            place,
+        }),
     }
 }
 
 #[cfg(test)]
 mod tests {
     use super::*;
+    use std::format;
+    use std::string::ToString;
+    use std::vec::Vec;
 
     #[test]
     fn each_number_has_its_refusal_back() {
@@ -212,15 +242,37 @@ mod tests {
     }
 
     #[test]
-    #[should_panic(expected = "refusal 16")]
-    fn an_unknown_number_is_not_passed_on() {
-        Refusal::of(16, None);
+    fn an_unknown_number_is_an_error_that_has_it() {
+        for number in (0..=255).filter(|n| !(1..=15).contains(n)) {
+            let refusal = Refusal::of(number, Some(9));
+            assert_eq!((refusal.answer(), refusal.number(), refusal.place()), (3, number, Some(9)));
+            assert_eq!(answer_of(3, number, 1, 9, Some(9)), Err(refusal));
+        }
+        let words = "answer 3, refusal 16: the library's answer is not known to this package";
+        assert_eq!(Refusal::of(16, None).to_string(), words);
     }
 
     #[test]
-    #[should_panic(expected = "answer 4")]
-    fn an_unknown_answer_is_not_passed_on() {
-        let _ = answer_of(4, 0, 0, 0, None);
+    fn an_unknown_answer_is_an_error_that_has_it() {
+        for answer in 4..=255 {
+            let refusal = answer_of(answer, 7, 1, 9, Some(9)).unwrap_err();
+            assert_eq!((refusal.answer(), refusal.number(), refusal.place()), (answer, 7, Some(9)));
+            assert!(refusal.to_string().starts_with(&format!("answer {answer}, refusal 7 at byte 9: ")));
+        }
+    }
+
+    /// One text for each number, in C and here.
+    #[test]
+    fn the_header_has_the_same_texts() {
+        let header = include_str!("../../../include/guard.h");
+        let texts: Vec<_> = header
+            .lines()
+            .filter_map(|line| line.strip_prefix("        \"")?.strip_suffix("\","))
+            .collect();
+        let ours: Vec<_> = (1..=15)
+            .map(|number| Refusal::of(number, None).explanation().replace('"', "\\\""))
+            .collect();
+        assert_eq!(texts, ours);
     }
 
     #[test]

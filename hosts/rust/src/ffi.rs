@@ -62,6 +62,7 @@ pub(crate) fn taken(monitor: &Words) -> u32 {
 #[cfg(test)]
 mod tests {
     use super::*;
+    use std::vec;
 
     #[test]
     fn the_sizes_of_the_header() {

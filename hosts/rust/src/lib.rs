@@ -1,6 +1,11 @@
 #![doc = include_str!("../README.md")]
+#![no_std]
 #![deny(missing_docs)]
 #![deny(unsafe_code)]
+
+extern crate alloc;
+#[cfg(test)]
+extern crate std;
 
 mod answers;
 #[allow(unsafe_code)]

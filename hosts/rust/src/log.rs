@@ -2,7 +2,7 @@
 
 use crate::answers::{answer_of, Refusal, Verdict};
 use crate::ffi;
-use std::fmt;
+use core::fmt;
 
 /// What a run over a log came to. It prints as the program does: answer, refusal number or 0, mask, taken and place, with single spaces.
 #[derive(Clone, Copy, Debug, PartialEq, Eq, Hash)]
@@ -16,6 +16,18 @@ pub struct Outcome {
 }
 
 impl Outcome {
+    /// By what the call returned, 0 where it has written the twelve bytes and else a refusal's number, and by those bytes.
+    fn returned(number: u32, out: &[u8; 12]) -> Outcome {
+        if number == 0 {
+            return Outcome::of(out);
+        }
+        Outcome {
+            answer: Err(Refusal::of(u8::try_from(number).unwrap_or(u8::MAX), None)),
+            mask: 0,
+            taken: 0,
+        }
+    }
+
     fn of(out: &[u8; 12]) -> Outcome {
         let four = |at: usize| u32::from_le_bytes([out[at], out[at + 1], out[at + 2], out[at + 3]]);
         let mask = u16::from_le_bytes([out[2], out[3]]);
@@ -32,7 +44,7 @@ impl Outcome {
             Ok(Verdict::Whole) => (0, 0, 0),
             Ok(Verdict::Open { .. }) => (1, 0, 0),
             Ok(Verdict::Broken { at, .. }) => (2, 0, at),
-            Err(refusal) => (3, refusal.number().into(), refusal.place().unwrap_or(0)),
+            Err(refusal) => (refusal.answer().into(), refusal.number().into(), refusal.place().unwrap_or(0)),
         };
         [answer, refusal, self.mask.into(), self.taken, place]
     }
@@ -63,9 +75,8 @@ impl fmt::Display for Outcome {
 /// ```
 pub fn run(sheet: &[u8], log: &[u8], budget: u32) -> Outcome {
     let mut out = [0; 12];
-    let returned = ffi::call(sheet, log, budget, &mut out);
-    debug_assert_eq!(returned, 0, "an output of 12 bytes is enough");
-    Outcome::of(&out)
+    let number = ffi::call(sheet, log, budget, &mut out);
+    Outcome::returned(number, &out)
 }
 
 #[cfg(test)]
@@ -81,5 +92,27 @@ mod tests {
         assert_eq!(numbers([3, 12, 5, 0, 2, 0, 0, 0, 10, 0, 0, 0]), [3, 12, 5, 2, 10]);
         assert_eq!(numbers([3, 14, 0, 0, 0, 0, 0, 0, 0, 0, 0, 0]), [3, 14, 0, 0, 0]);
         assert_eq!(numbers([3, 1, 0, 0, 0, 0, 0, 0, 32, 0, 0, 0]), [3, 1, 0, 0, 32]);
+    }
+
+    /// A library of another version: its numbers are passed on, as an error.
+    #[test]
+    fn unknown_numbers_are_errors() {
+        for out in [[3, 16, 5, 0, 2, 0, 0, 0, 10, 0, 0, 0], [4, 0, 5, 0, 2, 0, 0, 0, 10, 0, 0, 0], [255; 12]] {
+            let outcome = Outcome::of(&out);
+            assert!(matches!(outcome.answer, Err(Refusal::Unknown { .. })));
+            let mask = u16::from_le_bytes([out[2], out[3]]).into();
+            let four = |at: usize| u32::from_le_bytes([out[at], out[at + 1], out[at + 2], out[at + 3]]);
+            assert_eq!(outcome.numbers(), [out[0].into(), out[1].into(), mask, four(4), four(8)]);
+        }
+    }
+
+    #[test]
+    fn what_the_call_returns() {
+        let returned = |number| Outcome::returned(number, &[0; 12]).answer;
+        assert_eq!(returned(0), Ok(Verdict::Whole));
+        assert_eq!(returned(15), Err(Refusal::OutputShort));
+        for (number, passed) in [(16, 16), (255, 255), (256, 255), (271, 255), (u32::MAX, 255)] {
+            assert!(matches!(returned(number), Err(Refusal::Unknown { number, .. }) if number == passed));
+        }
     }
 }

@@ -2,8 +2,9 @@
 
 use crate::answers::{answer_of, Refusal, Verdict};
 use crate::ffi::{self, Tables, Words};
-use std::borrow::Borrow;
-use std::fmt;
+use alloc::boxed::Box;
+use core::borrow::Borrow;
+use core::fmt;
 
 /// A translated sheet. Any number of sessions can go on under one book, in any threads.
 #[derive(Clone)]
@@ -127,8 +128,11 @@ impl<B: Borrow<Book>> Session<B> {
     }
 
     /// The verdict on what was taken so far.
-    pub fn verdict(&self) -> Verdict {
-        answer(ffi::verdict(&self.monitor), false).expect("a monitor holds a verdict and no refusal")
+    ///
+    /// # Errors
+    /// [`Refusal::Unknown`], from a library that this package doesn't know, and nothing else: a monitor holds a verdict.
+    pub fn verdict(&self) -> Result<Verdict, Refusal> {
+        answer(ffi::verdict(&self.monitor), false)
     }
 
     /// How many observations were taken: all but the refused ones and those after a break.
@@ -148,5 +152,35 @@ impl<B: Borrow<Book>> fmt::Debug for Session<B> {
             .field("verdict", &self.verdict())
             .field("taken", &self.taken())
             .finish_non_exhaustive()
+    }
+}
+
+#[cfg(test)]
+mod tests {
+    use super::*;
+
+    #[test]
+    fn an_answer_by_its_word() {
+        assert_eq!(answer(2 | 5 << 16 | 9 << 32, false), Ok(Verdict::Broken { at: 9, mask: 5 }));
+        assert_eq!(answer(3 | 4 << 8 | 13 << 32, true), Err(Refusal::Value { place: 13 }));
+        assert_eq!(answer(3 | 11 << 8, false), Err(Refusal::TimeFalls { place: None }));
+    }
+
+    /// A library of another version may give any word: it is an answer, or an error that has its numbers.
+    #[test]
+    fn any_word_is_a_verdict_or_an_error() {
+        for low in 0..=u16::MAX {
+            for of_sheet in [false, true] {
+                let [kind, number] = low.to_le_bytes();
+                let place = of_sheet.then_some(9);
+                match answer(u64::from(low) | 6 << 16 | 9 << 32, of_sheet) {
+                    Ok(verdict) => assert!(kind < 3 && [0, 6].contains(&verdict.mask())),
+                    Err(Refusal::Unknown { answer, number: n, place: p }) => {
+                        assert!((answer, n, p) == (kind, number, place) && (kind > 3 || !(1..=15).contains(&n)))
+                    }
+                    Err(refusal) => assert!(kind == 3 && refusal.number() == number),
+                }
+            }
+        }
     }
 }

@@ -77,7 +77,7 @@ fn hold_session(number: u32, book: &Book, before: u32, bytes: &mut Bytes) -> u32
         assert_eq!(numbers(answer), due, "case {number}, observation {i}");
         assert!(answer.is_ok() || session.words() == words, "case {number}: a refusal changed the monitor");
     }
-    assert_eq!(numbers(Ok(session.verdict())), bytes.answer(), "case {number}, verdict");
+    assert_eq!(numbers(session.verdict()), bytes.answer(), "case {number}, verdict");
     assert_eq!(session.taken(), bytes.four(), "case {number}, taken");
     count.into()
 }

@@ -21,7 +21,7 @@ fn two_sessions_under_one_book() {
     let book = Book::open(&T).unwrap();
     let (mut one, mut two) = (book.session(), book.session());
     assert_eq!(one.event(0, 0), OPEN);
-    assert_eq!((two.verdict(), two.taken()), (Verdict::Whole, 0));
+    assert_eq!((two.verdict(), two.taken()), (Ok(Verdict::Whole), 0));
     assert_eq!(one.event(0, 5), OPEN);
     assert_eq!(two.event(1, 3), Ok(Verdict::Broken { at: 1, mask: 1 }));
     assert_eq!(one.event(1, 15), Ok(Verdict::Whole));
@@ -35,7 +35,7 @@ fn a_restart_is_a_fresh_session() {
     let mut session = book.session();
     assert_eq!(session.event(1, 7), Ok(Verdict::Broken { at: 1, mask: 1 }));
     session.restart();
-    assert_eq!((session.words(), session.taken(), session.verdict()), (fresh, 0, Verdict::Whole));
+    assert_eq!((session.words(), session.taken(), session.verdict()), (fresh, 0, Ok(Verdict::Whole)));
     assert_eq!(session.event(0, 0), OPEN);
 }
 
@@ -67,10 +67,7 @@ fn a_refused_observation_changes_nothing() {
     for time in 0..5 {
         assert_eq!((session.event(0, time), session.clock(time)), (refused_time(), refused_time()));
     }
-    assert_eq!(
-        (session.words(), session.taken(), session.verdict()),
-        (words, 1, Verdict::Open { mask: 1 })
-    );
+    assert_eq!((session.words(), session.taken(), session.verdict()), (words, 1, OPEN));
     assert_eq!(session.event(0, 5), OPEN);
     assert_eq!(session.event(2, 5), Ok(Verdict::Whole));
 }
@@ -93,7 +90,7 @@ fn the_count_ends() {
         (Err(Refusal::CountFull), Err(Refusal::CountFull))
     );
     assert_eq!((session.event(64, 0), session.event(0, 7)), (refused_name(), refused_time()));
-    assert_eq!((session.words(), session.verdict()), (words, Verdict::Open { mask: 1 }));
+    assert_eq!((session.words(), session.verdict()), (words, OPEN));
 }
 
 /// "A stopped book gives that same answer to every later observation, unchecked."
@@ -109,7 +106,7 @@ fn a_stopped_book_answers_the_same() {
         (broken, broken, broken, broken)
     );
     assert_eq!((session.words(), session.taken()), (words, 1));
-    assert!(session.verdict().is_broken());
+    assert_eq!(session.verdict(), broken);
 }
 
 #[test]

@@ -75,7 +75,7 @@ fn live_and_each_budget_as_live() {
         let log = log_of(&list);
         let book = Book::open(sheet).unwrap();
         let mut session = book.session();
-        assert_eq!(session.verdict(), Verdict::Whole);
+        assert_eq!(session.verdict(), Ok(Verdict::Whole));
         assert_eq!(list.len(), answers.split_whitespace().count());
         for ((name, time), word) in list.into_iter().zip(answers.split_whitespace()) {
             let before = (session.verdict(), session.taken());
@@ -87,7 +87,7 @@ fn live_and_each_budget_as_live() {
             match answer {
                 Err(_) => assert_eq!((session.verdict(), session.taken()), before),
                 Ok(verdict) => {
-                    assert_eq!((session.verdict(), session.taken()), (verdict, before.1 + 1));
+                    assert_eq!((session.verdict(), session.taken()), (Ok(verdict), before.1 + 1));
                     let outcome = run(sheet, &log, session.taken());
                     assert_eq!((outcome.answer, outcome.taken), (Ok(verdict), session.taken()), "{text}");
                 }
