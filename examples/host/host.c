@@ -1,7 +1,7 @@
 /* An example of a host: it runs trace.lot under book.lob, both in the current folder, once by guard_run and once as a live session, call by call, and prints the five numbers.
  * Exit status 1 if the two differ. It is a test: a real host reads no log, but asks before each call and stops the plugin, as stop.c does.
  *
- *     cc -std=c99 -I include -o host examples/host/host.c target/staticlib/libhost.a
+ *     cc -std=c99 -I include -o host examples/host/host.c target/libguard.a
  */
 #include "guard.h"
 #include <stdio.h>

@@ -1,7 +1,7 @@
 /* An example of a live host: it asks the guard before each call between host and plugin, reads the clock by a timer, stops the plugin at a break and says the broken rule in
  * words, and stops it where it cannot be judged. The clock and the plugin are simulated: each story below is a list of calls at times.
  *
- *     cc -std=c99 -Wall -Wextra -Werror -I include -o stop examples/host/stop.c target/staticlib/libhost.a
+ *     cc -std=c99 -Wall -Wextra -Werror -I include -o stop examples/host/stop.c target/libguard.a
  *
  * The order is the point: a call that is made first and shown to the guard afterwards has happened, whatever the guard says. */
 #include "guard.h"

@@ -106,11 +106,10 @@ def notation(runs, dice, count):
     group, notes = Group('rules printed, and read back to the same bytes'), intercom_make()
     while group.count < count:
         sheet = sheets.largest_sheet() if group.count == 0 else sheets.some_sheet(dice, shared=dice.chance(0.5))
-        component = notes.Component()
-        component.numbers, component.outputs = {str(n): n for n in range(64)}, sheet.outputs
-        said = runs.on(written(sheet)[0], b'')
-        for line in ['sheet s'] + [line for line in said[0] if line.startswith('rule ')]:
-            notes.read_line(component, line)
+        component, names = notes.Component(), ['%s %d n%d' % ('out' if sheet.outputs >> n & 1 else 'in', n, n) for n in range(64)]
+        said = runs.on(written(sheet)[0], b'', '\n'.join(names).encode())
+        for number, line in enumerate(names + ['sheet s'] + [line for line in said[0] if line.startswith('rule ')], 1):
+            component.read_line(number, line)
         group.hold_that(sheet, component.sheet_bytes('s') == written(sheet)[0] and said[2] == 0, said)
     return group
 

@@ -24,6 +24,7 @@ int main()
     uint8_t out[GUARD_OUTPUT_BYTES];
     wrong += guard_run(sheet, sizeof sheet, nullptr, 0, 1, out, sizeof out) != 0 || out[0] != GUARD_WHOLE;
     wrong += std::strstr(guard_refusal_text(GUARD_MARK), "mark") == nullptr || std::strcmp(guard_refusal_text(16), "unknown refusal") != 0;
-    std::printf("guard.h from C++: %s\n", wrong ? "NOT AS DUE" : "11 as due");
+    wrong += guard_library_version() != GUARD_LIBRARY_VERSION || guard_sheet_version() != GUARD_SHEET_VERSION;
+    std::printf("guard.h from C++: %s\n", wrong ? "NOT AS DUE" : "12 as due");
     return wrong != 0;
 }

@@ -1,7 +1,7 @@
 /* explain: what a sheet says, and what a log under it comes to, in plain words. The verdict is guard_run's. What a rule would have taken, and until when, is asked of the
  * proved guard too, on copies of a monitor (ask.c): this program knows the layout of a sheet and nothing of its meaning.
  *
- *     cc -std=c99 -I include -o explain tools/explain/[a-z]*.c target/staticlib/libhost.a
+ *     cc -std=c99 -I include -o explain tools/explain/[a-z]*.c target/libguard.a
  */
 #include "explain.h"
 

@@ -18,6 +18,10 @@ use Rattle.answers.specs.declared.Answer.{Answer}
 use Rattle.replies.specs.Replies.{wordOf}
 use Rattle.monitor.specs.Promise.{seen, valuesOf, verdictIn, inWords, Observes, Freshes}
 
+-- it rises with each call that is added or changed, and with the memory that a host lends
+abbrev pub libraryVersion : ℕ
+libraryVersion = 2
+
 -- ---- opening: the two arrays that a host lends
 
 pub record Arrays : Type 0 where

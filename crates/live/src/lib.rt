@@ -1,14 +1,16 @@
 // A live session for C hosts (document 01, "Observing"): "The host's session keeps one monitor, lent to the guard and changed in place". The host lends the book's table, which opening
-// writes and nothing else changes, and the monitor's 34 words. An answer is one number (crate `replies`).
+// writes and nothing else changes, and the monitor's 34 words. An answer is one number (crate `replies`). The number in a call's name is that of the layout of what is lent: a host of
+// another layout does not link.
 ghost use mathlib.Core.Path.{_≡_};
+ghost use Rattle.layout.specs.Layout.{version};
 ghost use Rattle.words.specs.Words.{heldBy};
 ghost use Rattle.answers.specs.declared.Observation.the-variants.{Event, Clock};
 ghost use Rattle.monitor.specs.Promise.{inWords, Freshes};
-ghost use Rattle.live.specs.Live.{Opens, Notes, verdictIs};
+ghost use Rattle.live.specs.Live.{libraryVersion, Opens, Notes, verdictIs};
 
 // Reads a sheet into the table of its book and makes a fresh monitor; 0. Or the sheet's refusal and its place: then neither is changed.
 #[no_mangle]
-pub extern "C" fn guard_lent_open(
+pub extern "C" fn guard2_open(
     sheet: &[u8],
     book: &mut [u64; 1104],
     monitor: &mut [u64; 34],
@@ -35,7 +37,7 @@ pub extern "C" fn guard_lent_open(
 
 // Makes the monitor a fresh one, for whatever book.
 #[no_mangle]
-pub extern "C" fn guard_lent_start(monitor: &mut [u64; 34])
+pub extern "C" fn guard2_start(monitor: &mut [u64; 34])
     ensures { λ _. ⌜ Freshes inWords (now (monitor .exit)) ⌝ }
 {
     let first = monitor::fresh();
@@ -44,7 +46,7 @@ pub extern "C" fn guard_lent_start(monitor: &mut [u64; 34])
 
 // One event, under the book whose table is lent. A name of 64 or more, of whatever width, is one that the judge refuses.
 #[no_mangle]
-pub extern "C" fn guard_lent_event(
+pub extern "C" fn guard2_event(
     book: &[u64; 1104],
     monitor: &mut [u64; 34],
     name: u32,
@@ -58,7 +60,7 @@ pub extern "C" fn guard_lent_event(
 
 // One clock reading.
 #[no_mangle]
-pub extern "C" fn guard_lent_clock(book: &[u64; 1104], monitor: &mut [u64; 34], time: u32) -> u64
+pub extern "C" fn guard2_clock(book: &[u64; 1104], monitor: &mut [u64; 34], time: u32) -> u64
     ensures { λ r. ⌜ Notes (now (book .entry)) (now (monitor .entry)) (Clock time) r (now (monitor .exit)) ⌝ }
 {
     let a = monitor::tick(book, monitor, time);
@@ -67,7 +69,7 @@ pub extern "C" fn guard_lent_clock(book: &[u64; 1104], monitor: &mut [u64; 34], 
 
 // The verdict that the monitor holds.
 #[no_mangle]
-pub extern "C" fn guard_lent_verdict(monitor: &[u64; 34]) -> u64
+pub extern "C" fn guard2_verdict(monitor: &[u64; 34]) -> u64
     ensures { λ r. ⌜ verdictIs r (now (monitor .entry)) ⌝ }
 {
     replies::answer_word(monitor::verdict(monitor))
@@ -75,8 +77,30 @@ pub extern "C" fn guard_lent_verdict(monitor: &[u64; 34]) -> u64
 
 // The number of observations that the monitor has taken.
 #[no_mangle]
-pub extern "C" fn guard_lent_taken(monitor: &[u64; 34]) -> u32
+pub extern "C" fn guard2_taken(monitor: &[u64; 34]) -> u32
     ensures { λ r. ⌜ r ≡ heldBy (now (monitor .entry)) .taken ⌝ }
 {
     monitor::count(monitor)
+}
+
+// ---- versions
+
+const LIBRARY: u32 = 2;
+
+const NEWEST_SHEET: u32 = 1;
+
+// This library's version, which a host compares with its header's.
+#[no_mangle]
+pub extern "C" fn guard_library_version() -> u32
+    ensures { λ r. ⌜ r ≡ libraryVersion ⌝ }
+{
+    LIBRARY
+}
+
+// The newest version of a sheet that is read.
+#[no_mangle]
+pub extern "C" fn guard_sheet_version() -> u32
+    ensures { λ r. ⌜ r ≡ version ⌝ }
+{
+    NEWEST_SHEET
 }

@@ -189,3 +189,9 @@ fn words_of_no_session() {
         assert_eq!(session.words(), book.session().words());
     }
 }
+
+#[test]
+fn versions() {
+    assert_eq!(guard::library_version(), guard::LIBRARY_VERSION);
+    assert_eq!(guard::sheet_version(), 1);
+}

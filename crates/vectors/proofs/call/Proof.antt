@@ -11,14 +11,14 @@ returns c = search needs
 returns-2 : tie.Need-returns-2
 returns-2 c = search needs
 
-slice-aggregate-guard-run : tie.Need-slice-aggregate-guard-run
-slice-aggregate-guard-run c = search (needs, length-take-le)
+slice-aggregate-guard2-run : tie.Need-slice-aggregate-guard2-run
+slice-aggregate-guard2-run c = search (needs, length-take-le)
 
-slice-aggregate-guard-run-2 : tie.Need-slice-aggregate-guard-run-2
-slice-aggregate-guard-run-2 c = search (needs, length-take-le)
+slice-aggregate-guard2-run-2 : tie.Need-slice-aggregate-guard2-run-2
+slice-aggregate-guard2-run-2 c = search (needs, length-take-le)
 
-guard-run-requires : tie.Need-guard-run-requires
-guard-run-requires c κs = search needs
+guard2-run-requires : tie.Need-guard2-run-requires
+guard2-run-requires c κs = search needs
 
 returns-3 : tie.Need-returns-3
 returns-3 c = search needs
@@ -29,7 +29,7 @@ call-spec =
     (tie.spec
     returns
     returns-2
-    slice-aggregate-guard-run
-    slice-aggregate-guard-run-2
-    guard-run-requires
+    slice-aggregate-guard2-run
+    slice-aggregate-guard2-run-2
+    guard2-run-requires
     returns-3)
