@@ -8,6 +8,7 @@ each group of cases; a difference, or a group with nothing in it, is a failure.
 """
 
 import importlib.util
+import itertools
 import os
 import random
 import re
@@ -25,7 +26,8 @@ import due
 import guard
 import make
 import sheets
-from guard import MOST, REFUSED
+from guard import CLOCK, MOST, REFUSED, Fragment, Range, Rule, Sheet
+from logs import log_bytes
 from runs import TEXTS, Group, Runs, file_bytes
 from sheets import Dice, written
 
@@ -79,17 +81,31 @@ def faults(runs, dice, count):
     return group
 
 
+def growing_cases(dice, count):
+    """A P that can still grow, so that the clock alone finds nothing late; foreign events and clock readings; then an event of Q at the deadline, next to it or long after it."""
+    for _ in range(count):
+        u, t = dice.between(1, 3), dice.pick([0, 1, 10, 1000, 4000000000])
+        rule = Rule(2, (make.single(0, u, u + dice.between(1, 3)),), (Fragment(dice.below(2), (Range(1, 1, 1 + dice.below(3)), Range(3, 1, 2))),), 0, t)
+        end = dice.below(100)
+        log = [(end, 0)] * u + [(end, 1)] * dice.below(2)
+        last = min(MOST, end + t + dice.pick([-1, 0, 1, 2, 100000000])) if end + t > 0 else 1
+        log += [(max(end, last - dice.below(3)), dice.pick([9, CLOCK])) for _ in range(dice.below(2))]
+        log.append((max(last, log[-1][0]), dice.pick([1, 1, 3])))
+        yield make.Case('growing', written(Sheet(10, (rule,)))[0], log_bytes(log), MOST)
+
+
+PHRASES = ('late: the last', 'was in time until', 'out of order', 'waits for', '(until', 'whole after', 'refused 11', 'refused 12', 'refused 14')
+
+
 def random_logs(runs, dice, count):
     """The reference's cases under another seed: logs that follow their rules, those that go up to a deadline, and refused ones."""
-    group = Group('sheets and logs by the reference: what was expected, and until when')
-    each = count // 4
-    cases = list(make.log_cases(dice, 2 * each)) + list(make.deadline_cases(dice, each)) + list(make.refused_log_cases(dice, each))
-    met = set()
-    for case in cases:
+    group, met = Group('sheets and logs by the reference: what was expected, and until when'), set()
+    each = count // 5
+    for case in itertools.chain(make.log_cases(dice, 2 * each), make.deadline_cases(dice, each), growing_cases(dice, each), make.refused_log_cases(dice, each)):
         lines, status = due.of_log(case.sheet, case.log, guard.run(case.sheet, case.log, MOST), {}, TEXTS)
         group.hold((case.sheet.hex(), case.log.hex()), runs.on(case.sheet, case.log), lines, status)
-        met |= {phrase for phrase in ('late: the last', 'was in time until', 'out of order', 'waits for', '(until', 'whole after') if any(phrase in line for line in lines)}
-    group.hold_that('each kind of line', len(met) == 6, met)
+        met |= {phrase for phrase in PHRASES if any(phrase in line for line in lines)}
+    group.hold_that('each kind of line', len(met) == len(PHRASES), met)
     return group
 
 
@@ -145,7 +161,7 @@ def main(program, stub, seed):
     dice = Dice(random.Random(seed).random)
     with tempfile.TemporaryDirectory() as folder:
         runs, stubbed = Runs(program, folder), Runs(stub, folder)
-        groups = [by_hand.traces(runs), by_hand.refusals(runs, stubbed), intercom(runs), faults(runs, dice, 200), random_logs(runs, dice, 400), any_bytes(runs, dice, 400),
+        groups = [by_hand.traces(runs), by_hand.refusals(runs, stubbed), intercom(runs), faults(runs, dice, 200), random_logs(runs, dice, 400), any_bytes(runs, dice, 200),
                   notation(runs, dice, 60), calls.arguments(runs), calls.names(runs), calls.documented(runs), calls.other_library(stubbed)]
     return any([group.tell() for group in groups])
 
