@@ -10,11 +10,7 @@ ghost use Rattle.live.specs.Live.{libraryVersion, Opens, Notes, verdictI
 
 // Reads a sheet into the table of its book and makes a fresh monitor; 0. Or the sheet's refusal and its place: then neither is changed.
 #[no_mangle]
-pub extern "C" fn guard2_open(
-    sheet: &[u8],
-    book: &mut [u64; 1104],
-    monitor: &mut [u64; 34],
-) -> u64
+pub extern "C" fn guard2_open(sheet: &[u8], book: &mut [u64; 1104], monitor: &mut [u64; 34]) -> u64
     ensures { λ r. ⌜ Opens (now (sheet .entry)) (record { table = now (book .entry); monitor = now (monitor .entry) }) r (record { table = now (book .exit); monitor = now (monitor .exit) }) ⌝ }
 {
     let t = book::translate(sheet);

@@ -2,7 +2,7 @@
 -- Assumes nothing.
 use mathlib.Core.Path.{_≡_, refl, sym, _∙_, ap, ap₂}
 use mathlib.Core.List.{List, [], _∷_, _++_, append-assoc}
-use Prim.Native.Nat.{ℕ, zero, suc, _+_, _-_, _*_, _/_, _%_, _<_, _≤_}
+use Prim.Native.Nat.{ℕ, zero, suc, _+_, _-_, _/_, _%_, _<_, _≤_}
 use native.Mathlib.Omega.{arith}
 use lib.ListN.{length, drop, set, length-set}
 use lib.Seq.{drop-cons, drop-set-lt, getD-set-same}
@@ -39,8 +39,11 @@ module _ (line₀ : List ℕ) (end x : ℕ) where
     pub some : 1 ≤ at
     some = omega (arith, w .room)
 
-    pub within : at ≤ length line
+    within : at ≤ length line
     within = omega (arith, w .room, w .few, w .long)
+
+    pub place : at - 1 < length line
+    place = omega (arith, some, within)
 
     pub more : 10 ≤ rest → {c : ℕ} → c ≡ digit (rest % 10) → Writing (set line (at - 1) c) (rest / 10) (at - 1)
     more h {c} e = look (w .k) (w .room) (w .few) (w .fits) (w .same)

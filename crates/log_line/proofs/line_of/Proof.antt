@@ -4,9 +4,6 @@ use Rattle.log_line.proofs.Digits.{made}
 use borrow.Author.Needs.{needs}
 use Rattle.log_line.proofs.line_of.Statement.{statement}
 use Rattle.log_line.proofs.line_of.Tie as tie
-use Rattle.log_line.proofs.line_of.Reads as reads
-use Rattle.log_line.proofs.line_of.Lts as lts
-use Rattle.log_line.proofs.put.Reads as put-reads
 
 slice-aggregate-put : tie.Need-slice-aggregate-put
 slice-aggregate-put c = search needs
@@ -48,7 +45,13 @@ put-requires-5 : tie.Need-put-requires-5
 put-requires-5 c κs = search needs
 
 returns : tie.Need-returns
-returns c = made (c .before .before .before .before .before .before .before .before .before .before .before .before .before .before .before .before .before .before .args .o) _ refl refl (c .before .before .before .before .before .before .before .before .before .before .before .before .before .before .before .before .put .ensures) (c .before .before .before .before .before .before .before .before .before .before .before .before .before .put2 .ensures) (c .before .before .before .before .before .before .before .before .before .put3 .ensures) (c .before .before .before .before .before .put4 .ensures) (c .before .put5 .ensures)
+returns c =
+    let c₅ = c .before in
+    let c₄ = c₅ .before .before .before .before in
+    let c₃ = c₄ .before .before .before .before in
+    let c₂ = c₃ .before .before .before .before in
+    let c₁ = c₂ .before .before .before in
+    made (c₁ .before .before .args .o) _ refl refl (c₁ .put .ensures) (c₂ .put2 .ensures) (c₃ .put3 .ensures) (c₄ .put4 .ensures) (c₅ .put5 .ensures)
 
 pub line-of-spec : {M : Type 1} → statement M
 line-of-spec =

@@ -1,7 +1,6 @@
 -- `log_line::numeral` meets its contract. Before each turn the digits of what is left, and what is written, are the whole numeral (`Writing`). The measure is what is left. Assumes nothing.
 use native.Mathlib.Omega.{arith}
-use Rattle.log_line.proofs.Digits.{Writing, starts, some, within, more, ends}
-use borrow.Author.Needs.{needs}
+use Rattle.log_line.proofs.Digits.{Writing, starts, some, place, more, ends}
 use Rattle.log_line.proofs.numeral.Statement.{statement}
 use Rattle.log_line.proofs.numeral.Tie as tie
 
@@ -21,7 +20,7 @@ character-requires : tie.Need-character-requires Inv-loop μ-loop
 character-requires c κs = omega arith
 
 slice-write-line : tie.Need-slice-write-line Inv-loop μ-loop
-slice-write-line c = omega (arith, some _ _ _ (c .before .before .before .before .pre .0) (c .before .before .before .before .pre .1) (c .before .before .loop .inv), within _ _ _ (c .before .before .before .before .pre .0) (c .before .before .before .before .pre .1) (c .before .before .loop .inv))
+slice-write-line c = place _ _ _ (c .before .before .before .before .pre .0) (c .before .before .before .before .pre .1) (c .before .before .loop .inv)
 
 loop-less : tie.Need-loop-less Inv-loop μ-loop
 loop-less c = omega arith
@@ -36,7 +35,7 @@ character-requires-2 : tie.Need-character-requires-2 Inv-loop μ-loop
 character-requires-2 c κs = omega arith
 
 slice-write-line-2 : tie.Need-slice-write-line-2 Inv-loop μ-loop
-slice-write-line-2 c = omega (arith, some _ _ _ (c .before .before .before .before .pre .0) (c .before .before .before .before .pre .1) (c .before .before .loop .inv), within _ _ _ (c .before .before .before .before .pre .0) (c .before .before .before .before .pre .1) (c .before .before .loop .inv))
+slice-write-line-2 c = place _ _ _ (c .before .before .before .before .pre .0) (c .before .before .before .before .pre .1) (c .before .before .loop .inv)
 
 same-length : tie.Need-same-length Inv-loop μ-loop
 same-length c = ends _ _ _ (c .before .before .before .before .pre .0) (c .before .before .before .before .pre .1) (c .before .before .loop .inv) (c .before .loop-test .left) (c .character2 .ensures) .long

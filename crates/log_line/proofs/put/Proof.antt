@@ -7,9 +7,6 @@ use Rattle.log_line.proofs.Digits.{puts}
 use borrow.Author.Needs.{needs}
 use Rattle.log_line.proofs.put.Statement.{statement}
 use Rattle.log_line.proofs.put.Tie as tie
-use Rattle.log_line.proofs.put.Reads as reads
-use Rattle.log_line.proofs.put.Lts as lts
-use Rattle.log_line.proofs.numeral.Reads as numeral-reads
 
 sub-line : tie.Need-sub-line
 sub-line c = search needs
@@ -21,13 +18,19 @@ sub-numeral : tie.Need-sub-numeral
 sub-numeral c = search needs
 
 numeral-requires : tie.Need-numeral-requires
-numeral-requires c κs = let l = length-set (now (c .before .before .args .line)) (c .before .before .args .end - 1) (c .before .before .args .last) in (omega (arith, c .before .before .pre .0), omega (arith, c .before .before .pre .1, l))
+numeral-requires c κs =
+    let s = c .before .before in
+    (omega (arith, s .pre .0), omega (arith, s .pre .1, length-set (now (s .args .line)) (s .args .end - 1) (s .args .last)))
 
 same-length : tie.Need-same-length
-same-length c = puts (now (c .before .before .before .before .before .args .line)) (c .before .before .before .before .before .args .end) (c .before .before .before .before .before .args .x) (c .before .before .before .before .before .args .last) (c .before .before .before .before .before .pre .0) (c .before .before .before .before .before .pre .1) (c .before .before .numeral .ensures) .long
+same-length c =
+    let s = c .before .before .before .before .before in
+    puts (now (s .args .line)) (s .args .end) (s .args .x) (s .args .last) (s .pre .0) (s .pre .1) (c .before .before .numeral .ensures) .long
 
 returns : tie.Need-returns
-returns c = puts (now (c .before .before .before .before .before .args .line)) (c .before .before .before .before .before .args .end) (c .before .before .before .before .before .args .x) (c .before .before .before .before .before .args .last) (c .before .before .before .before .before .pre .0) (c .before .before .before .before .before .pre .1) (c .before .before .numeral .ensures)
+returns c =
+    let s = c .before .before .before .before .before in
+    puts (now (s .args .line)) (s .args .end) (s .args .x) (s .args .last) (s .pre .0) (s .pre .1) (c .before .before .numeral .ensures)
 
 pub put-spec : {M : Type 1} → statement M
 put-spec =
