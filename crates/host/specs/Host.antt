@@ -2,10 +2,10 @@
 -- Assumes nothing.
 use mathlib.Core.Path.{_≡_}
 use mathlib.Core.Bool.{cond}
-use mathlib.Core.List.{List, [], _∷_, _++_}
-use Prim.Native.Nat.{ℕ, suc}
+use mathlib.Core.List.{List, _++_}
+use Prim.Native.Nat.{ℕ}
 use lib.Dec.{ltb}
-use lib.ListN.{length, drop, set}
+use lib.ListN.{length, drop}
 use Rattle.pattern.specs.Judge.{Oracle, Right}
 use Rattle.layout.specs.Layout.{Sheet, le}
 use Rattle.layout.specs.Reading.{accepted, refused, readSheet}
@@ -52,10 +52,3 @@ callOf oracle sheet log budget out =
 -- the promise of the call, whatever judge
 abbrev pub Calls : List ℕ → List ℕ → ℕ → List ℕ → ℕ → List ℕ → Type 0
 Calls sheet log budget out r after = (oracle : Oracle) → Judging sheet oracle → record { returned = r; output = after } ≡ callOf oracle sheet log budget out
-
--- ---- how the output is written
-
--- bytes one after the other, from an offset on
-abbrev pub stored : List ℕ → ℕ → List ℕ → List ℕ
-stored out at [] = out
-stored out at (b ∷ bs) = stored (set out at b) (suc at) bs

@@ -1,11 +1,10 @@
 // The call of a C host (document 01, "Running a log"): "A C host makes one call with sheet, log, budget and an output of at least 12 bytes."
 // "The host call looks at its output, then the whole sheet, then the log."
 ghost use mathlib.Core.Path.{_≡_};
-ghost use Prim.Native.Nat.{_+_, _≤_};
+ghost use Prim.Native.Nat.{_≤_};
 ghost use mathlib.Core.List.{_++_};
 ghost use lib.ListN.{length, drop};
-ghost use Rattle.layout.specs.Layout.{le};
-ghost use Rattle.host.specs.Host.{Outcomes, Calls, twelve, stored};
+ghost use Rattle.host.specs.Host.{Outcomes, Calls, twelve};
 use runner::Outcome;
 
 // ---- the five numbers
@@ -36,30 +35,16 @@ pub fn outcome(sheet: &[u8], log: &[u8], budget: u32) -> Outcome
 
 // ---- the output
 
-// A number's n bytes from an offset on, little-endian.
-fn put(out: &mut [u8], at: usize, n: usize, x: u32)
-    requires { ⌜ at + n ≤ length (now out) ⌝ }
-    ensures { λ _. ⌜ now (out .exit) ≡ stored (now (out .entry)) at (le n x) ⌝ }
-{
-    let mut rest = x;
-    let mut i = 0usize;
-    while i < n {
-        out[at + i] = (rest % 256) as u8;
-        rest = rest / 256;
-        i = i + 1;
-    }
-}
-
 // "Bytes 0 to 11 are: answer; refusal number or 0; mask (u16); taken (u32); place (u32). Later bytes don't change."
 fn put_outcome(out: &mut [u8], o: Outcome)
     requires { ⌜ 12 ≤ length (now out) ⌝ }
     ensures { λ _. ⌜ now (out .exit) ≡ twelve o ++ drop 12 (now (out .entry)) ⌝ }
 {
-    put(out, 0, 1, o.answer as u32);
-    put(out, 1, 1, o.refusal as u32);
-    put(out, 2, 2, o.mask as u32);
-    put(out, 4, 4, o.taken);
-    put(out, 8, 4, o.place);
+    store::put(out, 0, 1, o.answer as u64);
+    store::put(out, 1, 1, o.refusal as u64);
+    store::put(out, 2, 2, o.mask as u64);
+    store::put(out, 4, 4, o.taken as u64);
+    store::put(out, 8, 4, o.place as u64);
 }
 
 // The call. "15 output under 12 bytes: it is unchanged and the call returns 15 (else 0)". Else the twelve bytes of the five numbers are written, and the output's other bytes stay.

@@ -5,6 +5,7 @@ pub mod Parts
 pub mod Sets
 pub mod Acceptance
 pub mod FirstFault
+pub mod Alike
 pub mod Length
 pub mod Accepted
 pub mod PageLaws

@@ -1,9 +1,9 @@
--- `host::put` meets its contract. After i bytes, storing what is left of the number from there on is storing the number. Assumes nothing.
+-- `store::put` meets its contract. After i bytes, storing what is left of the number from there on is storing the number. Assumes nothing.
 use Prim.Native.Nat.{_-_}
 use native.Mathlib.Omega.{arith}
-use Rattle.host.proofs.Stores.{Storing, storing-start, storing-more, storing-end}
-use Rattle.host.proofs.put.Statement.{statement}
-use Rattle.host.proofs.put.Tie as tie
+use Rattle.store.proofs.Stores.{Storing, storing-start, storing-more, storing-end}
+use Rattle.store.proofs.put.Statement.{statement}
+use Rattle.store.proofs.put.Tie as tie
 
 abbrev Inv-loop : tie.InvT-loop
 Inv-loop out₀ at n x rest₀ i₀ out rest i = Storing out₀ at n x out rest i
