@@ -2,7 +2,7 @@
 -- Assumes nothing.
 use mathlib.Core.Path.{_≡_, refl, sym, _∙_, ap, ap₂, subst}
 use mathlib.Core.List.{List, [], _∷_, map, map-map}
-use Prim.Native.Nat.{ℕ}
+use Prim.Native.Nat.{ℕ, _%_}
 use native.Mathlib.Omega.{arith}
 use denote.Enum.Declared.{tagOf}
 use Rattle.pattern.specs.Judge.{nothing, judgeAnswers}
@@ -21,9 +21,11 @@ use Rattle.book.proofs.Translated.{answered}
 use Rattle.monitor.specs.Promise.{seen, valuesOf, inWords, Observes, Freshes, Run, done, more}
 use Rattle.monitor.proofs.Agreement.{agrees-from}
 use Rattle.answers.specs.declared.Answer.{Answer}
+use Rattle.answers.specs.declared.Answer.the-variants.{Whole, Open, Broken}
+use Rattle.answers.specs.declared.Answer.the-variants as N
 use Rattle.answers.specs.declared.Observation.{Observation}
 use Rattle.replies.specs.Replies.{wordOf}
-use Rattle.live.specs.Live.{Arrays, OpensBy, Opens, Live, none, call, LiveAgreement}
+use Rattle.live.specs.Live.{Arrays, OpensBy, Opens, Notes, Live, none, call, LiveAgreement}
 
 -- ---- opening
 
@@ -44,6 +46,19 @@ module _ (sheet : List ℕ) (t : Translation) (translates : Translates sheet t) 
           let n : number ≡ k = cc p in
           let at : place ≡ q = cc p in
           record { answers = is ∙ ap₂ (λ (x y : ℕ). wordOf (refusedValues x y)) n at ∙ sym (rw f); opens = rw f refl }
+
+-- ---- what a number tells
+
+-- the lowest eight bits are the answer
+low-byte : (a : Answer) → wordOf (valuesOf a) % 256 ≡ valuesOf a .answer
+low-byte Whole = refl
+low-byte (Open m) = omega arith
+low-byte (Broken k m) = omega arith
+low-byte (N.Refused n) = omega arith
+
+-- so a host that reads a refusal off the number has the monitor that it lent
+pub refused-unchanged : {table before after : List ℕ} {o : Observation} {r : ℕ} → Notes table before o r after → r % 256 ≡ 3 → after ≡ before
+refused-unchanged c e = c .observes .unchanged (sym (low-byte (c .answer)) ∙ ap (λ (n : ℕ). n % 256) (sym (c .number)) ∙ e)
 
 -- ---- the whole list
 

@@ -142,7 +142,8 @@ agrees-from F b S formed m f {os} {as′} {last} run = record {
 -- for every accepted sheet's bytes, every form of a monitor and every list of observations: what reading, translating, opening and observing one after the other answers is what the judge
 -- answers
 module _ (bytes : List ℕ) (are : Bytes bytes) (t : Translation) (translates : Translates bytes t) (S : Sheet) (is : readSheet bytes ≡ accepted S) where
-  pub agreement : {X : Type 0} (F : Form X) (m : X) → Freshes F m → (os : List Observation) (as′ : List Answer) (last : X) → Run (Observes F (t .book .table)) m os as′ last → CodeAgreement S os as′ (F .held last)
+  pub agreement : {X : Type 0} (F : Form X) (m : X) → Freshes F m → (os : List Observation) (as′ : List Answer) (last : X)
+      → Run (Observes F (t .book .table)) m os as′ last → CodeAgreement S os as′ (F .held last)
   agreement F m fresh os as′ last =
       let formed : WellFormedSheet S = accepted-is-encoded bytes are is .formed in
       agrees-from F (t .book) S formed m (fresh .follows S (t .book) formed (translated bytes t are translates S is))

@@ -59,7 +59,19 @@ broken-requires-2 c κs = search needs
 
 returns-4 : tie.Need-returns-4
 unfolding actOf
-returns-4 c = c .broken2 .ensures ∙ rw (ne-eqb _ _ (c .before .before .before .before .before .before .before .before .before .if1 .left), ← c .before .before .before .before .before .before .before .before .released .ensures, c .before .before .before .before .before .before .before .if3 .left, ← c .before .before .before .before .before .before .cell-at2 .ensures, ← c .before .before .before .before .before .cell-at3 .ensures, ← c .before .before .before .limit-in .ensures, ← c .before .before .late .ensures, c .before .if4 .taken)
+returns-4 c =
+    let e = c .before .before .before .before .before in
+    c .broken2 .ensures
+    ∙ rw (
+      ne-eqb _ _ (e .before .before .before .before .if1 .left),
+      ← e .before .before .before .released .ensures,
+      e .before .before .if3 .left,
+      ← e .before .cell-at2 .ensures,
+      ← e .cell-at3 .ensures,
+      ← c .before .before .before .limit-in .ensures,
+      ← c .before .before .late .ensures,
+      c .before .if4 .taken,
+    )
 
 fragment-in-requires-2 : tie.Need-fragment-in-requires-2
 fragment-in-requires-2 c κs = search needs
@@ -69,21 +81,94 @@ longer-requires c κs = search needs
 
 returns-5 : tie.Need-returns-5
 unfolding actOf
-returns-5 c = c .longer .ensures ∙ rw (ne-eqb _ _ (c .before .before .before .before .before .before .before .before .before .before .before .before .before .before .if1 .left), ← c .before .before .before .before .before .before .before .before .before .before .before .before .before .released .ensures, c .before .before .before .before .before .before .before .before .before .before .before .before .if3 .left, ← c .before .before .before .before .before .before .before .before .before .before .before .cell-at2 .ensures, ← c .before .before .before .before .before .before .before .before .before .before .cell-at3 .ensures, ← c .before .before .before .before .before .before .before .before .limit-in .ensures, ← c .before .before .before .before .before .before .before .late .ensures, c .before .before .before .before .before .before .if4 .left, ← c .before .before .before .before .before .fragment-in2 .ensures, eq-eqb _ _ (c .before .before .before .if5 .taken), eq-eqb _ _ (c .before .if6 .taken))
+returns-5 c =
+    let e = c .before .before .before .before .before in
+    let d = e .before .before .before .before .before in
+    c .longer .ensures
+    ∙ rw (
+      ne-eqb _ _ (d .before .before .before .before .if1 .left),
+      ← d .before .before .before .released .ensures,
+      d .before .before .if3 .left,
+      ← d .before .cell-at2 .ensures,
+      ← d .cell-at3 .ensures,
+      ← e .before .before .before .limit-in .ensures,
+      ← e .before .before .late .ensures,
+      e .before .if4 .left,
+      ← e .fragment-in2 .ensures,
+      eq-eqb _ _ (c .before .before .before .if5 .taken),
+      eq-eqb _ _ (c .before .if6 .taken),
+    )
 
 other-requires : tie.Need-other-requires
 other-requires c κs = search needs
 
 returns-6 : tie.Need-returns-6
 unfolding actOf
-returns-6 c = c .other .ensures ∙ rw (ne-eqb _ _ (c .before .before .before .before .before .before .before .before .before .before .before .before .before .before .if1 .left), ← c .before .before .before .before .before .before .before .before .before .before .before .before .before .released .ensures, c .before .before .before .before .before .before .before .before .before .before .before .before .if3 .left, ← c .before .before .before .before .before .before .before .before .before .before .before .cell-at2 .ensures, ← c .before .before .before .before .before .before .before .before .before .before .cell-at3 .ensures, ← c .before .before .before .before .before .before .before .before .limit-in .ensures, ← c .before .before .before .before .before .before .before .late .ensures, c .before .before .before .before .before .before .if4 .left, ← c .before .before .before .before .before .fragment-in2 .ensures, eq-eqb _ _ (c .before .before .before .if5 .taken), ne-eqb _ _ (c .before .if6 .left))
+returns-6 c =
+    let e = c .before .before .before .before .before in
+    let d = e .before .before .before .before .before in
+    c .other .ensures
+    ∙ rw (
+      ne-eqb _ _ (d .before .before .before .before .if1 .left),
+      ← d .before .before .before .released .ensures,
+      d .before .before .if3 .left,
+      ← d .before .cell-at2 .ensures,
+      ← d .cell-at3 .ensures,
+      ← e .before .before .before .limit-in .ensures,
+      ← e .before .before .late .ensures,
+      e .before .if4 .left,
+      ← e .fragment-in2 .ensures,
+      eq-eqb _ _ (c .before .before .before .if5 .taken),
+      ne-eqb _ _ (c .before .if6 .left),
+    )
 
 passes-requires : tie.Need-passes-requires
 passes-requires c κs = search needs
 
 returns-7 : tie.Need-returns-7
 unfolding actOf
-returns-7 c = c .passes .ensures ∙ rw (ne-eqb _ _ (c .before .before .before .before .before .before .before .before .before .before .before .before .if1 .left), ← c .before .before .before .before .before .before .before .before .before .before .before .released .ensures, c .before .before .before .before .before .before .before .before .before .before .if3 .left, ← c .before .before .before .before .before .before .before .before .before .cell-at2 .ensures, ← c .before .before .before .before .before .before .before .before .cell-at3 .ensures, ← c .before .before .before .before .before .before .limit-in .ensures, ← c .before .before .before .before .before .late .ensures, c .before .before .before .before .if4 .left, ← c .before .before .before .fragment-in2 .ensures, ne-eqb _ _ (c .before .if5 .left))
+returns-7 c =
+    let e = c .before .before .before .before .before in
+    let d = e .before .before .before .before .before in
+    c .passes .ensures
+    ∙ rw (
+      ne-eqb _ _ (d .before .before .if1 .left),
+      ← d .before .released .ensures,
+      d .if3 .left,
+      ← e .before .before .before .before .cell-at2 .ensures,
+      ← e .before .before .before .cell-at3 .ensures,
+      ← e .before .limit-in .ensures,
+      ← e .late .ensures,
+      c .before .before .before .before .if4 .left,
+      ← c .before .before .before .fragment-in2 .ensures,
+      ne-eqb _ _ (c .before .if5 .left),
+    )
 
 pub act-spec : {M : Type 1} → statement M
-act-spec = tie.close (tie.spec cell-at-requires fragment-in-requires begins-requires returns broken-requires returns-2 released-requires returns-3 cell-at-requires-2 cell-at-requires-3 add-limit-in mul-limit-in element-copy-out-limit-in limit-in-requires late-requires broken-requires-2 returns-4 fragment-in-requires-2 longer-requires returns-5 other-requires returns-6 passes-requires returns-7)
+act-spec =
+    tie.close
+    (tie.spec
+    cell-at-requires
+    fragment-in-requires
+    begins-requires
+    returns
+    broken-requires
+    returns-2
+    released-requires
+    returns-3
+    cell-at-requires-2
+    cell-at-requires-3
+    add-limit-in
+    mul-limit-in
+    element-copy-out-limit-in
+    limit-in-requires
+    late-requires
+    broken-requires-2
+    returns-4
+    fragment-in-requires-2
+    longer-requires
+    returns-5
+    other-requires
+    returns-6
+    passes-requires
+    returns-7)
