@@ -83,8 +83,10 @@ module _ (S T : Sheet) (b : Book) (ls : Looks S b) (lt : Looks T b) where
   pub one-sheet : S ≡ T
   one-sheet =
       let l : length (S .rules) ≡ length (T .rules) = sym (ls .count) ∙ lt .count in
-      ap₂ (λ (o : ℕ) (rules : List Rule). record { outputs = o; rules = rules }) (sym (ls .outputs) ∙ lt .outputs)
-      (ext-getD noRule (S .rules) (T .rules) l (λ r h. rule-same r h (subst (λ (n : ℕ). r < n) l h)))
+      made (sym (ls .version′) ∙ lt .version′) (sym (ls .outputs) ∙ lt .outputs) (ext-getD noRule (S .rules) (T .rules) l (λ r h. rule-same r h (subst (λ (n : ℕ). r < n) l h)))
+    where
+      made : S .version ≡ T .version → S .outputs ≡ T .outputs → S .rules ≡ T .rules → S ≡ T
+      made v o rs = λ i. record { version = v i; outputs = o i; rules = rs i }
 
 -- `bookOf` is injective on well-formed sheets
 pub same-book-same-sheet : (S T : Sheet) → WellFormedSheet S → WellFormedSheet T → bookOf S ≡ bookOf T → S ≡ T

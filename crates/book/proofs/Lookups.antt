@@ -13,7 +13,7 @@ use Rattle.pattern.specs.Lists.{Distinct, isIn}
 use Rattle.pattern.specs.Meaning.{Range, Fragment, fragmentNames, orderingNames, Rule, namesOf, WellFormedRange, WellFormedFragment, WellFormed}
 use Rattle.pattern.specs.Model.{roundOf, fragmentAt, noFragment}
 use Rattle.names.specs.Names.{member}
-use Rattle.layout.specs.Layout.{Sheet, timeOf, WellFormedRule, WellFormedSheet}
+use Rattle.layout.specs.Layout.{Sheet, timeOf, WellFormedSheet}
 use Rattle.layout.specs.Pages.{fragmentWord, rangeWord, headTable, fragmentTable, rangeTable, noRange, noRule, ruleAt, rangeAt}
 use Rattle.layout.proofs.PageLaws.{head-at, fragment-at, range-at, round-formed, round-few, each-at}
 use Rattle.tables.specs.Words.{roundIn, cap, bitIn, countIn}
@@ -26,6 +26,7 @@ use Rattle.book.specs.Books.{bookOf}
 use Rattle.book.specs.Looks.{LooksFragment, LooksRange, Looks}
 use Rattle.tables.proofs.Bounds.{cap-of, cap-small}
 use Rattle.tables.proofs.WordLaws.{join-in, count-in, name-in, bit-in, low-in, high-in}
+use Rattle.layout.proofs.Accepted.{rule-formed}
 use Rattle.layout.proofs.Once.{same-place, round-names}
 use Rattle.book.proofs.Steps.{mask-below}
 use Rattle.book.proofs.TableLaws.{Once, mask-stays, limit-at, cell-at}
@@ -33,24 +34,24 @@ use Rattle.book.proofs.SetLaws.{stored-length, stored-at, member-names,
 
 module _ (S : Sheet) (formed : WellFormedSheet S) where
   module _ (r : ℕ) (here : r < length (S .rules)) where
-    rule-formed : WellFormed (ruleAt (S .rules) r)
-    rule-formed = each-at (WellFormedRule (S .outputs)) noRule (S .rules) r (formed .rules) here .formed
+    good : WellFormed (ruleAt (S .rules) r)
+    good = rule-formed S formed r here
 
     few : r < 16
     few = omega (arith, here, formed .count)
 
     round : roundIn (getD (headTable (S .rules)) r 0) ≡ length (roundOf (ruleAt (S .rules) r))
-    round = rw (head-at (S .rules) r here few) (head-round (ruleAt (S .rules) r) rule-formed)
+    round = rw (head-at (S .rules) r here few) (head-round (ruleAt (S .rules) r) good)
 
     pub head : LooksHead (getD (headTable (S .rules)) r 0) (ruleAt (S .rules) r)
-    head = rw (head-at (S .rules) r here few) (looks-head (ruleAt (S .rules) r) rule-formed)
+    head = rw (head-at (S .rules) r here few) (looks-head (ruleAt (S .rules) r) good)
 
     module _ (f : ℕ) (inside : f < length (roundOf (ruleAt (S .rules) r))) where
       fragment-formed : WellFormedFragment (fragmentAt (ruleAt (S .rules) r) f)
-      fragment-formed = each-at WellFormedFragment noFragment (roundOf (ruleAt (S .rules) r)) f (round-formed (ruleAt (S .rules) r) rule-formed) inside
+      fragment-formed = each-at WellFormedFragment noFragment (roundOf (ruleAt (S .rules) r)) f (round-formed (ruleAt (S .rules) r) good) inside
 
       fewer : f < 16
-      fewer = omega (arith, inside, round-few (ruleAt (S .rules) r) rule-formed)
+      fewer = omega (arith, inside, round-few (ruleAt (S .rules) r) good)
 
       word : getD (fragmentTable (S .rules)) (16 * r + f) 0 ≡ fragmentWord (fragmentAt (ruleAt (S .rules) r) f)
       word = fragment-at (S .rules) r here few f inside fewer
@@ -117,7 +118,7 @@ module _ (S : Sheet) (formed : WellFormedSheet S) where
         let kn : n < length (roundOf (ruleAt (S .rules) r)) = subst (λ (k : ℕ). n < k) round hn in
         let ki : i < length (fragmentAt (ruleAt (S .rules) r) m .ranges) = subst (λ (k : ℕ). i < k) (count m km) hi in
         let kj : j < length (fragmentAt (ruleAt (S .rules) r) n .ranges) = subst (λ (k : ℕ). j < k) (count n kn) hj in
-        same-place (roundOf rule) (subst Distinct (sym (round-names rule)) (rule-formed .distinct)) m n i j km kn ki kj (sym (range-bit m km i ki) ∙ e ∙ range-bit n kn j kj)
+        same-place (roundOf rule) (subst Distinct (sym (round-names rule)) (good .distinct)) m n i j km kn ki kj (sym (range-bit m km i ki) ∙ e ∙ range-bit n kn j kj)
 
   -- ---- the table
 
@@ -161,7 +162,7 @@ module _ (S : Sheet) (formed : WellFormedSheet S) where
         ∙ cell-at (headTable (S .rules)) (fragmentTable (S .rules)) (rangeTable (S .rules)) (cap 16 (length (S .rules))) capped masks size r present (once r here) n i
         (subst (λ (k : ℕ). n < k) (sym (round r here)) inside) (subst (λ (k : ℕ). i < k) (sym (count r here n inside)) within)
         ∙ rw (head-at (S .rules) r here (few r here), word r here n inside, range-word r here n inside i within)))
-        (rule-cell rule (rule-formed r here) n inside i within)
+        (rule-cell rule (good r here) n inside i within)
 
   holders : (n r : ℕ) → n < 64 → member (maskIn (getD table n 0)) r ≡ (ltb r (length (S .rules)) && isIn n (namesOf (ruleAt (S .rules) r)))
   unfolding tableOf

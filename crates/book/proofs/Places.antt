@@ -2,20 +2,22 @@
 -- (An accepted sheet is shorter, for its names are distinct; here the crude bound serves.)
 -- Assumes nothing.
 use mathlib.Core.Path.{_≡_, refl, sym, subst}
-use mathlib.Core.Bool.{Bool, true, false, cond, not}
+use mathlib.Core.Bool.{Bool, true, false, cond}
 use mathlib.Core.List.{List, [], _∷_}
 use Prim.Native.Nat.{ℕ, zero, suc, _+_, _*_, _≤_}
 use native.Mathlib.Nat.{suc-mul}
 use native.Mathlib.Omega.{arith}
 use lib.Dec.{ltb, eqb}
 use lib.ListN.{length}
-use borrow.Author.Tests.{ltb-false, eqb-true}
 use Rattle.pattern.specs.Meaning.{fragmentNames, orderingNames}
 use Rattle.names.specs.Names.{insertAll}
 use Rattle.layout.specs.Layout.{Sheet, Header}
 use Rattle.layout.specs.Form.{Form, done, _>>=_, ask, Got, got, stopped, next, number, unless, fieldAt, read}
-use Rattle.layout.specs.Reading.{outside, dueZero, noFault, byKind, triggerFault, nameFault, below, several, rangeName, triggerSet, range, ranges, fragment, fragments, header, rule, rules, sheet, markFault, versionFault, rulesFault, accepted, refused, atEnd, readSheet}
+use Rattle.layout.specs.Terms.{noFault, today}
+use Rattle.layout.specs.Reading.{markFault, dueZero, countFault, leastFault, mostFault, triggerFault, versionFault, rulesFault, kindFault, joinFault, nameFault, several, byKind, triggerSet, rangeName}
+use Rattle.layout.specs.Reading.{range, ranges, fragment, fragments, header, rule, rules, sheet, accepted, refused, atEnd, readSheetOn, readSheet}
 use Rattle.layout.specs.Reading as R
+use Rattle.layout.proofs.Values.{outside-faultless, unlike-faultless}
 use Rattle.layout.proofs.Forms.{read-bind}
 
 -- ---- how far a form is read
@@ -75,87 +77,75 @@ module _ (s : List ℕ) where
         later {n = n + (count * n + 0)} (simp (suc-mul) (omega arith))
         (then (one used) (w used) (λ x p. then (several one names (insertAll used (names x)) count) (each-within count (insertAll used (names x))) (λ xs q. ended (x ∷ xs) tt)))
 
-  few : (least most x : ℕ) → outside least most x ≡ 0 → x ≤ most
-  few least most x e = ltb-false most x (look (ltb x least) (ltb most x) e)
-    where
-      look : (a b : Bool) → _≡_ {A = ℕ} (cond a 4 (cond b 4 0)) 0 → b ≡ false
-      look true b q = absurd (omega arith)
-      look false true q = absurd (omega arith)
-      look false false q = refl
+  few : (most x : ℕ) → countFault most x ≡ 0 → x ≤ most
+  few most x e = outside-faultless 3 1 most x e .1
 
-  none : (x : ℕ) → dueZero x ≡ 0 → x ≤ 8
-  none x e = look (eqb x 0) refl e
-    where
-      look : (t : Bool) → eqb x 0 ≡ t → _≡_ {A = ℕ} (cond (not t) 5 0) 0 → x ≤ 8
-      look true q h = omega (arith, eqb-true x 0 q)
-      look false q h = absurd (omega arith)
-
-  module _ (outputs : ℕ) where
-    range-within : (ofQ : Bool) (used : ℕ) → Within Any 5 (range outputs ofQ used)
+  module _ (version outputs : ℕ) where
+    range-within : (ofQ : Bool) (used : ℕ) → Within Any 5 (range today version outputs ofQ used)
     unfolding range
     range-within ofQ used =
-        then (ask 1 (nameFault outputs ofQ used)) (taken 1 (nameFault outputs ofQ used))
-        (λ n p. then (ask 2 (below 1)) (taken 2 (below 1))
-        (λ u q. then (ask 2 (below u)) (taken 2 (below u)) (λ v r. ended (record { name = n; u = u; v = v }) tt)))
+        then (ask 1 (nameFault today outputs ofQ used)) (taken 1 (nameFault today outputs ofQ used))
+        (λ n p. then (ask 2 leastFault) (taken 2 leastFault)
+        (λ u q. then (ask 2 (mostFault (today .endless version) u)) (taken 2 (mostFault (today .endless version) u)) (λ v r. ended (record { name = n; u = u; v = v }) tt)))
 
-    fragment-within : (ofQ : Bool) (used : ℕ) → Within Any 42 (fragment outputs ofQ used)
+    fragment-within : (ofQ : Bool) (used : ℕ) → Within Any 42 (fragment today version outputs ofQ used)
     unfolding fragment ranges
     fragment-within ofQ used =
-        then (ask 1 (outside 0 1)) (taken 1 (outside 0 1))
-        (λ j p. then (ask 1 (outside 1 8)) (asked 1 (outside 1 8) (few 1 8))
-        (λ n q. then (ranges outputs ofQ used n) (later {n = n * 5} {m = 40} (omega (arith, q)) (each-within 5 (range outputs ofQ) rangeName (range-within ofQ) n used))
+        then (ask 1 (joinFault today version)) (taken 1 (joinFault today version))
+        (λ j p. then (ask 1 (countFault 8)) (asked 1 (countFault 8) (few 8))
+        (λ n q. then (ranges today version outputs ofQ used n) (later {n = n * 5} {m = 40} (omega (arith, q)) (each-within 5 (range today version outputs ofQ) rangeName (range-within ofQ) n used))
         (λ rs r. ended _ tt)))
 
-    fragments-within : (ofQ : Bool) (n used : ℕ) → n ≤ 8 → Within Any 336 (fragments outputs ofQ used n)
+    fragments-within : (ofQ : Bool) (n used : ℕ) → n ≤ 8 → Within Any 336 (fragments today version outputs ofQ used n)
     unfolding fragments
-    fragments-within ofQ n used h = later {n = n * 42} (omega arith) (each-within 42 (fragment outputs ofQ) fragmentNames (fragment-within ofQ) n used)
+    fragments-within ofQ n used h = later {n = n * 42} (omega arith) (each-within 42 (fragment today version outputs ofQ) fragmentNames (fragment-within ofQ) n used)
 
-    q-few : (k x : ℕ) → byKind k (outside 1 8) dueZero x ≡ 0 → x ≤ 8
+    q-few : (k x : ℕ) → byKind k (countFault 8) dueZero x ≡ 0 → x ≤ 8
     q-few k x e = look (eqb k 2) e
       where
-        look : (t : Bool) → cond t (outside 1 8) dueZero x ≡ 0 → x ≤ 8
-        look true h = few 1 8 x h
-        look false h = none x h
+        look : (t : Bool) → cond t (countFault 8) dueZero x ≡ 0 → x ≤ 8
+        look true h = few 8 x h
+        look false h = omega (arith, unlike-faultless 4 0 x h)
 
     abbrev Counted : Header → Type 0
     Counted h = (h .countP ≤ 8) × (h .countQ ≤ 8)
 
-    header-within : Within Counted 8 (header outputs)
+    header-within : Within Counted 8 (header today version outputs)
     unfolding header
     header-within =
-        then (ask 1 (outside 0 2)) (taken 1 (outside 0 2))
-        (λ k a. then (ask 1 (outside 1 8)) (asked 1 (outside 1 8) (few 1 8))
-        (λ p b. then (ask 1 (byKind k (outside 1 8) dueZero)) (asked 1 (byKind k (outside 1 8) dueZero) (q-few k))
+        then (ask 1 (kindFault today version)) (taken 1 (kindFault today version))
+        (λ k a. then (ask 1 (countFault 8)) (asked 1 (countFault 8) (few 8))
+        (λ p b. then (ask 1 (byKind k (countFault 8) dueZero)) (asked 1 (byKind k (countFault 8) dueZero) (q-few k))
         (λ q c. then (ask 1 (byKind k dueZero (triggerFault outputs))) (taken 1 (byKind k dueZero (triggerFault outputs)))
         (λ i d. then (ask 4 (byKind k noFault dueZero)) (taken 4 (byKind k noFault dueZero))
         (λ t f. ended (record { kind = k; countP = p; countQ = q; trigger = i; time = t }) (b, c))))))
 
-    rule-within : Within Any 680 (rule outputs)
+    rule-within : Within Any 680 (rule today version outputs)
     unfolding rule
     rule-within =
-        then (header outputs) header-within
-        (λ h c. then (fragments outputs false (triggerSet h) (h .countP)) (fragments-within false (h .countP) (triggerSet h) (c .0))
-        (λ p a. then (fragments outputs true (insertAll (triggerSet h) (orderingNames p)) (h .countQ)) (fragments-within true (h .countQ) (insertAll (triggerSet h) (orderingNames p)) (c .1))
+        then (header today version outputs) header-within
+        (λ h c. then (fragments today version outputs false (triggerSet h) (h .countP)) (fragments-within false (h .countP) (triggerSet h) (c .0))
+        (λ p a. then (fragments today version outputs true (insertAll (triggerSet h) (orderingNames p)) (h .countQ)) (fragments-within true (h .countQ) (insertAll (triggerSet h) (orderingNames p)) (c .1))
         (λ q b. ended _ tt)))
 
-    rules-within : (n : ℕ) → n ≤ 16 → Within Any 10880 (rules outputs n)
+    rules-within : (n : ℕ) → n ≤ 16 → Within Any 10880 (rules today version outputs n)
     unfolding rules
-    rules-within n h = later {n = n * 680} (omega arith) (each-within 680 (λ _. rule outputs) (λ _. []) (λ _. rule-within) n 0)
+    rules-within n h = later {n = n * 680} (omega arith) (each-within 680 (λ _. rule today version outputs) (λ _. []) (λ _. rule-within) n 0)
 
-  sheet-within : Within Any 10894 sheet
+  sheet-within : Within Any 10894 (sheet today)
   unfolding sheet
   sheet-within =
       then (ask 3 markFault) (taken 3 markFault)
-      (λ m a. then (ask 2 versionFault) (taken 2 versionFault)
+      (λ m a. then (ask 2 (versionFault today)) (taken 2 (versionFault today))
       (λ v b. then (ask 8 noFault) (taken 8 noFault)
-      (λ o c. then (ask 1 rulesFault) (asked 1 rulesFault (few 1 16))
-      (λ n d. then (rules o n) (rules-within o n d) (λ rs f. ended (record { outputs = o; rules = rs }) tt)))))
+      (λ o c. then (ask 1 (rulesFault today)) (asked 1 (rulesFault today) (few 16))
+      (λ n d. then (rules today v o n) (rules-within v o n d) (λ rs f. ended (record { version = v; outputs = o; rules = rs }) tt)))))
 
   -- ---- the place of a refusal
 
   pub near : Near (readSheet s)
-  unfolding readSheet
-  near = go (read s sheet 0) (sheet-within .reads 0 10894 (omega arith))
+  unfolding readSheetOn
+  near = go (read s (sheet today) 0) (sheet-within .reads 0 10894 (omega arith))
     where
       go : (r : Got Sheet) → Ends Any 10894 r → Near (atEnd s r)
       go (got S end) (l, p) = look (ltb end (length s))

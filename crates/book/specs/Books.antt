@@ -3,7 +3,7 @@
 use mathlib.Core.Path.{_≡_}
 use mathlib.Core.List.{List}
 use Prim.Native.Nat.{ℕ}
-use Rattle.layout.specs.Layout.{Sheet, version}
+use Rattle.layout.specs.Layout.{Sheet}
 use Rattle.layout.specs.Reading.{accepted, readSheet}
 use Rattle.sheet.specs.Answers.{valuesOf, readValues, pagesOf}
 use Rattle.sheet.specs.declared.Pages.{Pages}
@@ -14,7 +14,7 @@ use Rattle.book.specs.declared.Translation.{Translation}
 -- the book of some pages, with the table made of them
 abbrev pub bookFrom : Pages → Book
 bookFrom p = record {
-  version = version;
+  version = p .version;
   outputs = p .outputs;
   count = p .count;
   heads = p .heads;

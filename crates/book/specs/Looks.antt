@@ -6,7 +6,7 @@ use Prim.Native.Nat.{ℕ, _+_, _*_, _<_}
 use lib.ListN.{length, getD}
 use Rattle.pattern.specs.Meaning.{Rule}
 use Rattle.pattern.specs.Model.{roundOf, fragmentAt}
-use Rattle.layout.specs.Layout.{Sheet, joinNumber, version}
+use Rattle.layout.specs.Layout.{Sheet, joinNumber}
 use Rattle.layout.specs.Pages.{ruleAt, rangeAt}
 use Rattle.tables.specs.Words.{joinIn, countIn, nameIn, lowIn, highIn}
 use Rattle.tables.specs.Cells.{HoldsRules}
@@ -25,7 +25,7 @@ pub record LooksRange (word : ℕ) (r : Rule) (f s : ℕ) : Type 0 where
   pub v : highIn word ≡ rangeAt r f s .v
 
 pub record Looks (S : Sheet) (b : Book) : Type 0 where
-  pub version′ : b .version ≡ version
+  pub version′ : b .version ≡ S .version
   pub outputs : b .outputs ≡ S .outputs
   pub count : b .count ≡ length (S .rules)
   pub head : (r : ℕ) → r < length (S .rules) → LooksHead (getD (b .heads) r 0) (ruleAt (S .rules) r)

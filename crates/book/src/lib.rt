@@ -231,7 +231,7 @@ fn book_of(pages: sheet::Pages) -> Book
     let ranges = pages.ranges;
     let table = table_of(&heads, &fragments, &ranges, pages.count);
     Book {
-        version: 1,
+        version: pages.version,
         outputs: pages.outputs,
         count: pages.count,
         heads: heads,

@@ -10,8 +10,9 @@ use lib.Dec.{ltb}
 use lib.ListN.{length}
 use borrow.Author.Tests.{lt-ltb, le-ltb}
 use Rattle.layout.specs.Form.{Got, got, stopped, number, fieldAt, unless}
-use Rattle.layout.specs.Reading.{noFault}
-use Rattle.fields.specs.Told.{Told, right, wrong, Value}
+use Rattle.layout.specs.Terms.{noFault}
+use Rattle.layout.specs.Reading.{outside}
+use Rattle.fields.specs.Told.{Told, right, wrong, Value, Within}
 
 -- ---- a field whose value may be anything
 
@@ -107,3 +108,10 @@ pub heard-number : {s : List ℕ} {fault at v : ℕ} {P : ℕ → Type 0} {g : G
     → (g ≡ got v at) × (at ≤ length s) × P v
 heard-number {at} {P} (right a e z l shows) _ = (e ∙ ap (λ (x : ℕ). got x at) (sym (shows .0)), l, subst P (sym (shows .0)) (shows .1))
 heard-number (wrong e pos) z = absurd (omega (arith, pos, z))
+
+-- a value within bounds is within equal ones
+pub same-bounds : (k n place : ℕ) {s : List ℕ} {fault at v first first′ last last′ : ℕ} → first ≡ first′ → last ≡ last′
+    → Told s fault at (Within first last v) (fieldAt s n (outside k first last) place) → Told s fault at (Within first′ last′ v) (fieldAt s n (outside k first′ last′) place)
+same-bounds k n place {s} {fault} {at} {v} {first} {first′} {last} e e′ told =
+    subst (λ (x : ℕ). Told s fault at (Within first′ x v) (fieldAt s n (outside k first′ x) place)) e′
+    (subst (λ (x : ℕ). Told s fault at (Within x last v) (fieldAt s n (outside k x last) place)) e told)

@@ -6,8 +6,10 @@ ghost use Prim.Native.Nat.{_+_, _<_, _≤_};
 ghost use lib.Dec.{ltb};
 ghost use lib.ListN.{length};
 ghost use Rattle.names.specs.Names.{member};
+ghost use Rattle.layout.specs.Layout.{lastKind, mostFragments, lastName};
 ghost use Rattle.layout.specs.Form.{number, fieldAt};
-ghost use Rattle.layout.specs.Reading.{nameFault, triggerFault, inOrder, unlike, outside, below, dueZero, noFault, byKind};
+ghost use Rattle.layout.specs.Terms.{today, noFault};
+ghost use Rattle.layout.specs.Reading.{outside, unlike, dueZero, countFault, below, leastFault, mostFault, triggerFault, versionFault, rulesFault, kindFault, joinFault, nameFault, byKind};
 ghost use Rattle.fields.specs.Told.{Told, Value, Within};
 
 // A field: fault 0, its value and the offset after it; or the fault and its place.
@@ -64,41 +66,42 @@ pub fn field(s: &[u8], at: usize, n: usize) -> Found
     }
 }
 
-// A field that must have one value: the mark, the version, and where 0 is due.
-pub fn exactly(s: &[u8], at: usize, n: usize, due: u64, fault: u8) -> Found
+// A field of n bytes with a value from first to last, or the fault of any other.
+fn between(s: &[u8], at: usize, n: usize, first: u64, last: u64, fault: u8) -> Found
     requires { ⌜ (at ≤ length (now s)) × (n ≤ 8) × (0 < fault) ⌝ }
-    ensures { λ r. ⌜ Told (now (s .entry)) (r .fault) (r .at) (Within due due (r .value)) (fieldAt (now (s .entry)) n (unlike fault due) at) ⌝ }
+    ensures { λ r. ⌜ Told (now (s .entry)) (r .fault) (r .at) (Within first last (r .value)) (fieldAt (now (s .entry)) n (outside fault first last) at) ⌝ }
 {
     let f = field(s, at, n);
     if f.fault != 0 {
         return f;
     }
-    if f.value != due {
+    if f.value < first {
+        return stop(fault, at);
+    }
+    if last < f.value {
         return stop(fault, at);
     }
     f
 }
 
-// A count, a kind or a join, from first to last.
-pub fn between(s: &[u8], at: usize, first: u64, last: u64) -> Found
-    requires { ⌜ at ≤ length (now s) ⌝ }
-    ensures { λ r. ⌜ Told (now (s .entry)) (r .fault) (r .at) (Within first last (r .value)) (fieldAt (now (s .entry)) 1 (outside first last) at) ⌝ }
+// A field that must have one value: the mark, and where 0 is due.
+pub fn exactly(s: &[u8], at: usize, n: usize, due: u64, fault: u8) -> Found
+    requires { ⌜ (at ≤ length (now s)) × (n ≤ 8) × (0 < fault) ⌝ }
+    ensures { λ r. ⌜ Told (now (s .entry)) (r .fault) (r .at) (Within due due (r .value)) (fieldAt (now (s .entry)) n (unlike fault due) at) ⌝ }
 {
-    let f = field(s, at, 1);
-    if f.fault != 0 {
-        return f;
-    }
-    if f.value < first {
-        return stop(4, at);
-    }
-    if last < f.value {
-        return stop(4, at);
-    }
-    f
+    between(s, at, n, due, due, fault)
 }
 
-// A range's bound, u or v: u is at least 1, v at least u.
-pub fn bound(s: &[u8], at: usize, least: u64) -> Found
+// A count, from 1 on.
+pub fn count(s: &[u8], at: usize, most: u64) -> Found
+    requires { ⌜ at ≤ length (now s) ⌝ }
+    ensures { λ r. ⌜ Told (now (s .entry)) (r .fault) (r .at) (Within 1 most (r .value)) (fieldAt (now (s .entry)) 1 (countFault most) at) ⌝ }
+{
+    between(s, at, 1, 1, most, 4)
+}
+
+// A range's bound below the least that it may be.
+fn bound(s: &[u8], at: usize, least: u64) -> Found
     requires { ⌜ at ≤ length (now s) ⌝ }
     ensures { λ r. ⌜ Told (now (s .entry)) (r .fault) (r .at) (Value 2 (r .value)) (fieldAt (now (s .entry)) 2 (below least) at) ⌝ }
 {
@@ -112,6 +115,88 @@ pub fn bound(s: &[u8], at: usize, least: u64) -> Found
     f
 }
 
+// A range's u, which is at least 1.
+pub fn least(s: &[u8], at: usize) -> Found
+    requires { ⌜ at ≤ length (now s) ⌝ }
+    ensures { λ r. ⌜ Told (now (s .entry)) (r .fault) (r .at) (Value 2 (r .value)) (fieldAt (now (s .entry)) 2 leastFault at) ⌝ }
+{
+    bound(s, at, 1)
+}
+
+// ---- the fields that go by the terms of reading
+
+// The versions that are read are 1 to this one.
+const NEWEST: u64 = 1;
+
+// The most rules of a sheet.
+const MOST_RULES: u64 = 16;
+
+// The last kind.
+const LAST_KIND: u64 = 2;
+
+// The last join of version 1.
+const LAST_JOIN: u64 = 1;
+
+// The last name.
+const LAST_NAME: u8 = 63;
+
+// The most fragments of P and of Q, and the most ranges of a fragment.
+pub const MOST_FRAGMENTS: u64 = 8;
+
+pub const MOST_RANGES: u64 = 8;
+
+// The first kind that a version allows.
+fn first_kind(version: u64) -> u64
+    ensures { λ r. ⌜ r ≡ today .firstKind version ⌝ }
+{
+    0
+}
+
+// The last join that a version allows.
+fn last_join(version: u64) -> u64
+    ensures { λ r. ⌜ r ≡ today .lastJoin version ⌝ }
+{
+    LAST_JOIN
+}
+
+pub fn version(s: &[u8], at: usize) -> Found
+    requires { ⌜ at ≤ length (now s) ⌝ }
+    ensures { λ r. ⌜ Told (now (s .entry)) (r .fault) (r .at) (Within 1 (today .newest) (r .value)) (fieldAt (now (s .entry)) 2 (versionFault today) at) ⌝ }
+{
+    between(s, at, 2, 1, NEWEST, 3)
+}
+
+pub fn rule_count(s: &[u8], at: usize) -> Found
+    requires { ⌜ at ≤ length (now s) ⌝ }
+    ensures { λ r. ⌜ Told (now (s .entry)) (r .fault) (r .at) (Within 1 (today .mostRules) (r .value)) (fieldAt (now (s .entry)) 1 (rulesFault today) at) ⌝ }
+{
+    count(s, at, MOST_RULES)
+}
+
+pub fn kind(s: &[u8], at: usize, version: u64) -> Found
+    requires { ⌜ at ≤ length (now s) ⌝ }
+    ensures { λ r. ⌜ Told (now (s .entry)) (r .fault) (r .at) (Within (today .firstKind version) lastKind (r .value)) (fieldAt (now (s .entry)) 1 (kindFault today version) at) ⌝ }
+{
+    between(s, at, 1, first_kind(version), LAST_KIND, 4)
+}
+
+pub fn join(s: &[u8], at: usize, version: u64) -> Found
+    requires { ⌜ at ≤ length (now s) ⌝ }
+    ensures { λ r. ⌜ Told (now (s .entry)) (r .fault) (r .at) (Within 0 (today .lastJoin version) (r .value)) (fieldAt (now (s .entry)) 1 (joinFault today version) at) ⌝ }
+{
+    between(s, at, 1, 0, last_join(version), 4)
+}
+
+// A range's v, which is at least u. No version allows v = 0 yet.
+pub fn most(s: &[u8], at: usize, version: u64, u: u64) -> Found
+    requires { ⌜ at ≤ length (now s) ⌝ }
+    ensures { λ r. ⌜ Told (now (s .entry)) (r .fault) (r .at) (Value 2 (r .value)) (fieldAt (now (s .entry)) 2 (mostFault (today .endless version) u) at) ⌝ }
+{
+    bound(s, at, u)
+}
+
+// ---- names
+
 // A name of Q that is an input.
 fn misdirected(outputs: u64, of_q: bool, n: u8) -> bool
     ensures { λ r. ⌜ r ≡ («of_q» && not (member outputs n)) ⌝ }
@@ -124,9 +209,9 @@ fn misdirected(outputs: u64, of_q: bool, n: u8) -> bool
 
 // The faults of a name in the order of one field: above 63, already in the rule, of the wrong direction.
 fn in_order(n: u8, again: bool, wrong_way: bool) -> u8
-    ensures { λ r. ⌜ r ≡ inOrder (ltb 63 n) «again» «wrong_way» ⌝ }
+    ensures { λ r. ⌜ r ≡ today .inOrder (ltb lastName n) «again» «wrong_way» ⌝ }
 {
-    if 63 < n {
+    if LAST_NAME < n {
         return 6;
     }
     if again {
@@ -141,7 +226,7 @@ fn in_order(n: u8, again: bool, wrong_way: bool) -> u8
 // A range's name.
 pub fn name_field(s: &[u8], at: usize, outputs: u64, of_q: bool, used: u64) -> Found
     requires { ⌜ at ≤ length (now s) ⌝ }
-    ensures { λ r. ⌜ Told (now (s .entry)) (r .fault) (r .at) (Within 0 63 (r .value)) (fieldAt (now (s .entry)) 1 (nameFault outputs «of_q» used) at) ⌝ }
+    ensures { λ r. ⌜ Told (now (s .entry)) (r .fault) (r .at) (Within 0 lastName (r .value)) (fieldAt (now (s .entry)) 1 (nameFault today outputs «of_q» used) at) ⌝ }
 {
     let f = field(s, at, 1);
     if f.fault != 0 {
@@ -158,7 +243,7 @@ pub fn name_field(s: &[u8], at: usize, outputs: u64, of_q: bool, used: u64) -> F
 // The trigger of kinds 0 and 1: a name that is an input. It is the first name of its rule.
 fn trigger_field(s: &[u8], at: usize, outputs: u64) -> Found
     requires { ⌜ at ≤ length (now s) ⌝ }
-    ensures { λ r. ⌜ Told (now (s .entry)) (r .fault) (r .at) (Within 0 63 (r .value)) (fieldAt (now (s .entry)) 1 (triggerFault outputs) at) ⌝ }
+    ensures { λ r. ⌜ Told (now (s .entry)) (r .fault) (r .at) (Within 0 lastName (r .value)) (fieldAt (now (s .entry)) 1 (triggerFault outputs) at) ⌝ }
 {
     let f = field(s, at, 1);
     if f.fault != 0 {
@@ -176,17 +261,17 @@ fn trigger_field(s: &[u8], at: usize, outputs: u64) -> Found
 
 pub fn q_count(s: &[u8], at: usize, kind: u64) -> Found
     requires { ⌜ at ≤ length (now s) ⌝ }
-    ensures { λ r. ⌜ Told (now (s .entry)) (r .fault) (r .at) (Within 0 8 (r .value)) (fieldAt (now (s .entry)) 1 (byKind kind (outside 1 8) dueZero) at) ⌝ }
+    ensures { λ r. ⌜ Told (now (s .entry)) (r .fault) (r .at) (Within 0 mostFragments (r .value)) (fieldAt (now (s .entry)) 1 (byKind kind (countFault mostFragments) dueZero) at) ⌝ }
 {
     if kind == 2 {
-        return between(s, at, 1, 8);
+        return count(s, at, MOST_FRAGMENTS);
     }
     exactly(s, at, 1, 0, 5)
 }
 
 pub fn trigger(s: &[u8], at: usize, kind: u64, outputs: u64) -> Found
     requires { ⌜ at ≤ length (now s) ⌝ }
-    ensures { λ r. ⌜ Told (now (s .entry)) (r .fault) (r .at) (Within 0 63 (r .value)) (fieldAt (now (s .entry)) 1 (byKind kind dueZero (triggerFault outputs)) at) ⌝ }
+    ensures { λ r. ⌜ Told (now (s .entry)) (r .fault) (r .at) (Within 0 lastName (r .value)) (fieldAt (now (s .entry)) 1 (byKind kind dueZero (triggerFault outputs)) at) ⌝ }
 {
     if kind == 2 {
         return exactly(s, at, 1, 0, 5);

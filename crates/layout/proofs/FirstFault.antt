@@ -11,9 +11,10 @@ use native.Mathlib.Omega.{arith}
 use lib.Dec.{ltb}
 use lib.ListN.{length}
 use borrow.Author.Tests.{ltb-true, ltb-false, lt-ltb}
+use Rattle.layout.specs.Terms.{today}
 use Rattle.layout.specs.Layout.{Sheet}
 use Rattle.layout.specs.Form.{Form, done, field, Got, got, stopped, next, number, fieldAt, read, RightField, HasFault, FirstFault}
-use Rattle.layout.specs.Reading.{sheet, accepted, refused, atEnd, readSheet}
+use Rattle.layout.specs.Reading.{sheet, accepted, refused, atEnd, readSheetOn, readSheet}
 
 module _ (s : List ℕ) where
   -- ---- a field: it is right, or it has a fault
@@ -72,21 +73,21 @@ module _ (s : List ℕ) where
       go (has-fault j h q) ih (inl f) = rw (q, one-fault n fault at h (f .1), f .0)
       go (has-fault j h q) ih (inr f) = absurd (not-right n fault at (f .0) h)
 
-  -- ---- the sheet
+  -- ---- the sheet, on today's terms
 
   -- every field is right up to this offset, where the last rule ends, and more bytes follow
   pub record LeftOver (place : ℕ) : Type 0 where
     pub S : Sheet
-    pub rightUpTo : read s sheet 0 ≡ got S place
+    pub rightUpTo : read s (sheet today) 0 ≡ got S place
     pub more : place < length s
 
   -- what a refusal means
   abbrev pub Faulty : ℕ → ℕ → Type 0
-  Faulty k place = FirstFault s sheet 0 k place ⊎ ((k ≡ 10) × LeftOver place)
+  Faulty k place = FirstFault s (sheet today) 0 k place ⊎ ((k ≡ 10) × LeftOver place)
 
-  end-finds : (g : Got Sheet) {k place : ℕ} → read s sheet 0 ≡ g → atEnd s g ≡ refused k place → Faulty k place
+  end-finds : (g : Got Sheet) {k place : ℕ} → read s (sheet today) 0 ≡ g → atEnd s g ≡ refused k place → Faulty k place
   end-finds (stopped j p) {k} {place} q e =
-      let ek : j ≡ k = cc e in let ep : p ≡ place = cc e in inl (stop-finds sheet 0 (q ∙ rw (ek, ep)))
+      let ek : j ≡ k = cc e in let ep : p ≡ place = cc e in inl (stop-finds (sheet today) 0 (q ∙ rw (ek, ep)))
   end-finds (got S end) {k} {place} q e = go (ltb end (length s)) refl e
     where
       go : (b : Bool) → ltb end (length s) ≡ b → cond b (refused 10 end) (accepted S) ≡ refused k place → Faulty k place
@@ -98,11 +99,11 @@ module _ (s : List ℕ) where
 
   -- "The refusal is that of the first faulty field": all earlier fields are right, this one is not; or all are right, and bytes are left over
   pub first-fault : {k place : ℕ} → readSheet s ≡ refused k place → Faulty k place
-  unfolding readSheet
-  first-fault e = end-finds (read s sheet 0) refl e
+  unfolding readSheetOn
+  first-fault e = end-finds (read s (sheet today) 0) refl e
 
   -- and the other way round: bytes with a first fault are refused with its number, at its place
   pub fault-refused : {k place : ℕ} → Faulty k place → readSheet s ≡ refused k place
-  unfolding readSheet
-  fault-refused (inl f) = rw (fault-stops sheet 0 f)
+  unfolding readSheetOn
+  fault-refused (inl f) = rw (fault-stops (sheet today) 0 f)
   fault-refused (inr (e, l)) = rw (l .rightUpTo, lt-ltb _ _ (l .more), e)

@@ -11,6 +11,7 @@ use lib.ListN.{length, length-append, length-map}
 use borrow.Author.Tests.{eqb-true, eqb-false}
 use Rattle.pattern.specs.Lists.{In, Distinct, Each}
 use Rattle.pattern.specs.Meaning.{Range, Fragment, fragmentNames, orderingNames, Kind, once, repeated, timed, Rule, kindNames, namesOf, WellFormedRange, WellFormedFragment, WellFormed}
+use Rattle.layout.specs.Terms.{Terms, today}
 use Rattle.layout.specs.Layout.{Sheet, each, rangeBytes, fragmentBytes, ruleBytes, encode, WellFormedRule, WellFormedSheet, longest}
 use Rattle.layout.proofs.Sets.{each-append}
 
@@ -121,11 +122,10 @@ rule-length p K w =
     by-kind (repeated i) w h = omega (arith, w .p .count .1, h, length-append (orderingNames p) (i ∷ []), bytes-of [])
     by-kind (timed q t) w h = omega (arith, w .p .count .1, w .kind .0 .count .1, h, length-append (orderingNames p) (orderingNames q), bytes-of q)
 
-module _ (outputs : ℕ) where
-  rules-length : (rs : List Rule) → Each (WellFormedRule outputs) rs → length (each ruleBytes rs) ≤ 360 * length rs
-  rules-length [] g = omega arith
-  rules-length (r ∷ rs) g =
-      omega (arith, rule-length (r .p) (r .kind) (g .0 .formed), rules-length rs (g .1), length-append (ruleBytes r) (each ruleBytes rs))
+rules-length : (T : Terms) (version outputs : ℕ) (rs : List Rule) → Each (WellFormedRule T version outputs) rs → length (each ruleBytes rs) ≤ 360 * length rs
+rules-length T version outputs [] g = omega arith
+rules-length T version outputs (r ∷ rs) g =
+    omega (arith, rule-length (r .p) (r .kind) (g .0 .formed), rules-length T version outputs rs (g .1), length-append (ruleBytes r) (each ruleBytes rs))
 
 pub sheet-length : (S : Sheet) → WellFormedSheet S → length (encode S) ≤ longest
-sheet-length S w = omega (arith, w .count, rules-length (S .outputs) (S .rules) (w .rules))
+sheet-length S w = omega (arith, w .count, rules-length today (S .version) (S .outputs) (S .rules) (w .rules))

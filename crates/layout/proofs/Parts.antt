@@ -9,10 +9,11 @@ use native.Mathlib.Omega.{arith}
 use lib.ListN.{length, drop}
 use Rattle.pattern.specs.Meaning.{Range, Join, all, any, Fragment, fragmentNames, orderingNames, Kind, once, repeated, timed, Rule, Between, WellFormedRange}
 use Rattle.names.specs.Names.{insertAll}
-use Rattle.layout.specs.Layout.{le, each, joinNumber, kindNumber, inQ, triggerOf, timeOf, rangeBytes, fragmentBytes, Header, headerOf, headerBytes, ruleBytes, Bytes}
+use Rattle.layout.specs.Terms.{noFault, Terms, Covered}
+use Rattle.layout.specs.Layout.{le, each, mostFragments, mostRanges, joinNumber, kindNumber, inQ, triggerOf, timeOf, rangeBytes, fragmentBytes, Header, headerOf, headerBytes, ruleBytes, JoinAllowed, Bytes}
 use Rattle.layout.specs.Form.{got, next, fieldAt, read}
-use Rattle.layout.specs.Reading.{outside, below, nameFault, triggerFault, dueZero, noFault, byKind, joinOf, kindOf, triggerSet, rangeName, range, ranges, fragment, fragments, header, rule}
-use Rattle.layout.proofs.Values.{outside-faultless, outside-right, below-faultless, below-right, NameFits, name-faultless, name-right, ByKind, kind-faultless, kind-right}
+use Rattle.layout.specs.Reading.{dueZero, countFault, leastFault, mostFault, triggerFault, kindFault, joinFault, nameFault, byKind, joinOf, kindOf, triggerSet, rangeName, range, ranges, fragment, fragments, header, rule}
+use Rattle.layout.proofs.Values.{outside-faultless, outside-right, below-faultless, below-right, NameFits, name-faultless, name-right, most-is, ByKind, kind-faultless, kind-right}
 use Rattle.layout.proofs.Fields.{Piece, join-pieces, FieldGot, field-sound, field-complete, Finds}
 use Rattle.layout.proofs.Forms.{next-got, next-same, moved, read-bind, several-length, Sound, AllGood, several-sound, several-complete}
 
@@ -22,18 +23,18 @@ use Rattle.layout.proofs.Forms.{next-got, next-same, moved, read-bind, 
 abbrev pub RangeFits : ℕ → Bool → ℕ → Range → Type 0
 RangeFits outputs ofQ used r = WellFormedRange r × NameFits outputs ofQ used (r .name)
 
-module _ (s : List ℕ) (outputs : ℕ) (ofQ : Bool) where
-  range-sound : Bytes s → (used at end : ℕ) (r : Range) → at ≤ length s → read s (range outputs ofQ used) at ≡ got r end
+module _ {T : Terms} (covered : Covered T) (s : List ℕ) (version outputs : ℕ) (ofQ : Bool) where
+  range-sound : Bytes s → (used at end : ℕ) (r : Range) → at ≤ length s → read s (range T version outputs ofQ used) at ≡ got r end
       → Sound s rangeBytes (RangeFits outputs ofQ used) at r end
   unfolding range
   range-sound bytes used at end r h e =
-      let (n, at₁, e₁, k₁) = next-got (fieldAt s 1 (nameFault outputs ofQ used) at) e in
-      let (u, at₂, e₂, k₂) = next-got (fieldAt s 2 (below 1) at₁) k₁ in
-      let (v, at₃, e₃, k₃) = next-got (fieldAt s 2 (below u) at₂) k₂ in
-      let a : FieldGot s 1 (nameFault outputs ofQ used) at n at₁ = field-sound bytes 1 (nameFault outputs ofQ used) e₁ in
-      let b : FieldGot s 2 (below 1) at₁ u at₂ = field-sound bytes 2 (below 1) e₂ in
-      let d : FieldGot s 2 (below u) at₂ v at₃ = field-sound bytes 2 (below u) e₃ in
-      let f = name-faultless outputs ofQ used n (a .faultless) in
+      let (n, at₁, e₁, k₁) = next-got (fieldAt s 1 (nameFault T outputs ofQ used) at) e in
+      let (u, at₂, e₂, k₂) = next-got (fieldAt s 2 leastFault at₁) k₁ in
+      let (v, at₃, e₃, k₃) = next-got (fieldAt s 2 (mostFault (T .endless version) u) at₂) k₂ in
+      let a : FieldGot s 1 (nameFault T outputs ofQ used) at n at₁ = field-sound bytes 1 (nameFault T outputs ofQ used) e₁ in
+      let b : FieldGot s 2 leastFault at₁ u at₂ = field-sound bytes 2 leastFault e₂ in
+      let d : FieldGot s 2 (mostFault (T .endless version) u) at₂ v at₃ = field-sound bytes 2 (mostFault (T .endless version) u) e₃ in
+      let f = name-faultless covered outputs ofQ used n (a .faultless) in
       moved (λ (x : Range) (k : ℕ). Sound s rangeBytes (RangeFits outputs ofQ used) at x k) k₃
       (record {
         piece = join-pieces (a .piece) (join-pieces (b .piece) (d .piece));
@@ -41,7 +42,7 @@ module _ (s : List ℕ) (outputs : ℕ) (ofQ : Bool) where
           record {
             named = f .0;
             some = below-faultless 1 u (b .faultless);
-            order = below-faultless u v (d .faultless);
+            order = below-faultless u v (sym (most-is covered version u v) ∙ d .faultless);
             few = omega (arith, d .small);
           },
           f .1,
@@ -49,87 +50,85 @@ module _ (s : List ℕ) (outputs : ℕ) (ofQ : Bool) where
       })
 
   range-complete : (used at : ℕ) (r : Range) (rest : List ℕ) → at ≤ length s → RangeFits outputs ofQ used r → drop at s ≡ rangeBytes r ++ rest
-      → Finds s (read s (range outputs ofQ used) at) r rest
+      → Finds s (read s (range T version outputs ofQ used) at) r rest
   unfolding range
   range-complete used at r rest h (g, f) e =
-      let a : Finds s (fieldAt s 1 (nameFault outputs ofQ used) at) (r .name) ((le 2 (r .u) ++ le 2 (r .v)) ++ rest)
-      = field-complete s 1 (nameFault outputs ofQ used) (r .name) at h (omega (arith, g .named)) (name-right outputs ofQ used (r .name) (g .named) f) e in
-      let b : Finds s (fieldAt s 2 (below 1) (a .end)) (r .u) (le 2 (r .v) ++ rest)
-      = field-complete s 2 (below 1) (r .u) (a .end) (a .inside) (omega (arith, g .order, g .few)) (below-right 1 (r .u) (g .some)) (a .left) in
-      let d : Finds s (fieldAt s 2 (below (r .u)) (b .end)) (r .v) rest
-      = field-complete s 2 (below (r .u)) (r .v) (b .end) (b .inside) (omega (arith, g .few)) (below-right (r .u) (r .v) (g .order)) (b .left) in
+      let a : Finds s (fieldAt s 1 (nameFault T outputs ofQ used) at) (r .name) ((le 2 (r .u) ++ le 2 (r .v)) ++ rest)
+      = field-complete s 1 (nameFault T outputs ofQ used) (r .name) at h (omega (arith, g .named)) (name-right covered outputs ofQ used (r .name) (g .named) f) e in
+      let b : Finds s (fieldAt s 2 leastFault (a .end)) (r .u) (le 2 (r .v) ++ rest)
+      = field-complete s 2 leastFault (r .u) (a .end) (a .inside) (omega (arith, g .order, g .few)) (below-right 1 (r .u) (g .some)) (a .left) in
+      let d : Finds s (fieldAt s 2 (mostFault (T .endless version) (r .u)) (b .end)) (r .v) rest
+      = field-complete s 2 (mostFault (T .endless version) (r .u)) (r .v) (b .end) (b .inside) (omega (arith, g .few)) (most-is covered version (r .u) (r .v) ∙ below-right (r .u) (r .v) (g .order)) (b .left) in
       record { end = d .end; reads = rw (a .reads, b .reads, d .reads); left = d .left; inside = d .inside }
 
 -- ---- a fragment
 
-abbrev pub FragmentFits : ℕ → Bool → ℕ → Fragment → Type 0
-FragmentFits outputs ofQ used f = Between 1 8 (length (f .ranges)) × AllGood rangeName (RangeFits outputs ofQ) used (f .ranges)
+abbrev pub FragmentFits : Terms → ℕ → ℕ → Bool → ℕ → Fragment → Type 0
+FragmentFits T version outputs ofQ used f = JoinAllowed T version f × (Between 1 8 (length (f .ranges)) × AllGood rangeName (RangeFits outputs ofQ) used (f .ranges))
 
-pub join-number : (j : ℕ) → Between 0 1 j → joinNumber (joinOf j) ≡ j
-join-number zero h = refl
-join-number (suc zero) h = refl
-join-number (suc (suc j)) h = absurd (omega (arith, h .1))
+-- the number of a join that some version allows
+pub join-number : {T : Terms} → Covered T → (version j : ℕ) → Between 0 (T .lastJoin version) j → joinNumber (joinOf j) ≡ j
+join-number covered version zero h = refl
+join-number covered version (suc zero) h = refl
+join-number covered version (suc (suc j)) h = absurd (omega (arith, h .1, covered .joins version))
 
 join-of : (j : Join) → joinOf (joinNumber j) ≡ j
 join-of all = refl
 join-of any = refl
 
-join-small : (j : Join) → Between 0 1 (joinNumber j)
-join-small all = omega arith
-join-small any = omega arith
-
-module _ (s : List ℕ) (outputs : ℕ) (ofQ : Bool) where
-  pub ranges-length : (used n at : ℕ) {end : ℕ} {rs : List Range} → read s (ranges outputs ofQ used n) at ≡ got rs end → length rs ≡ n
+module _ {T : Terms} (covered : Covered T) (s : List ℕ) (version outputs : ℕ) (ofQ : Bool) where
+  pub ranges-length : (used n at : ℕ) {end : ℕ} {rs : List Range} → read s (ranges T version outputs ofQ used n) at ≡ got rs end → length rs ≡ n
   unfolding ranges
-  ranges-length used n at e = several-length s (range outputs ofQ) rangeName n used at e
+  ranges-length used n at e = several-length s (range T version outputs ofQ) rangeName n used at e
 
   -- a fragment is read as its join, its count and its ranges
   pub read-fragment : (used at : ℕ)
-      → read s (fragment outputs ofQ used) at
-      ≡ next (fieldAt s 1 (outside 0 1) at) (λ j at₁. next (fieldAt s 1 (outside 1 8) at₁) (λ n at₂. next (read s (ranges outputs ofQ used n) at₂)
+      → read s (fragment T version outputs ofQ used) at
+      ≡ next (fieldAt s 1 (joinFault T version) at) (λ j at₁. next (fieldAt s 1 (countFault mostRanges) at₁) (λ n at₂. next (read s (ranges T version outputs ofQ used n) at₂)
       (λ rs at₃. got (record { join = joinOf j; ranges = rs }) at₃)))
   unfolding fragment
   read-fragment used at =
-      next-same (fieldAt s 1 (outside 0 1) at) (λ j at₁. next-same (fieldAt s 1 (outside 1 8) at₁) (λ n at₂. read-bind s (ranges outputs ofQ used n) _ at₂))
+      next-same (fieldAt s 1 (joinFault T version) at) (λ j at₁. next-same (fieldAt s 1 (countFault mostRanges) at₁) (λ n at₂. read-bind s (ranges T version outputs ofQ used n) _ at₂))
 
-  fragment-sound : Bytes s → (used at end : ℕ) (f : Fragment) → at ≤ length s → read s (fragment outputs ofQ used) at ≡ got f end
-      → Sound s fragmentBytes (FragmentFits outputs ofQ used) at f end
+  fragment-sound : Bytes s → (used at end : ℕ) (f : Fragment) → at ≤ length s → read s (fragment T version outputs ofQ used) at ≡ got f end
+      → Sound s fragmentBytes (FragmentFits T version outputs ofQ used) at f end
   unfolding ranges
   fragment-sound bytes used at end f h e =
-      let (j, at₁, e₁, k₁) = next-got (fieldAt s 1 (outside 0 1) at) (sym (read-fragment used at) ∙ e) in
-      let (n, at₂, e₂, k₂) = next-got (fieldAt s 1 (outside 1 8) at₁) k₁ in
-      let (rs, at₃, e₃, k₃) = next-got (read s (ranges outputs ofQ used n) at₂) k₂ in
-      let a : FieldGot s 1 (outside 0 1) at j at₁ = field-sound bytes 1 (outside 0 1) e₁ in
-      let b : FieldGot s 1 (outside 1 8) at₁ n at₂ = field-sound bytes 1 (outside 1 8) e₂ in
+      let (j, at₁, e₁, k₁) = next-got (fieldAt s 1 (joinFault T version) at) (sym (read-fragment used at) ∙ e) in
+      let (n, at₂, e₂, k₂) = next-got (fieldAt s 1 (countFault mostRanges) at₁) k₁ in
+      let (rs, at₃, e₃, k₃) = next-got (read s (ranges T version outputs ofQ used n) at₂) k₂ in
+      let a : FieldGot s 1 (joinFault T version) at j at₁ = field-sound bytes 1 (joinFault T version) e₁ in
+      let b : FieldGot s 1 (countFault mostRanges) at₁ n at₂ = field-sound bytes 1 (countFault mostRanges) e₂ in
       let d : Sound s (each rangeBytes) (λ (ys : List Range). (length ys ≡ n) × AllGood rangeName (RangeFits outputs ofQ) used ys) at₂ rs at₃
-      = several-sound s (range outputs ofQ) rangeName rangeBytes (RangeFits outputs ofQ) (range-sound s outputs ofQ bytes) n used at₂ at₃ rs (b .piece .inside) e₃ in
-      moved (λ (x : Fragment) (k : ℕ). Sound s fragmentBytes (FragmentFits outputs ofQ used) at x k) k₃
+      = several-sound s (range T version outputs ofQ) rangeName rangeBytes (RangeFits outputs ofQ) (range-sound covered s version outputs ofQ bytes) n used at₂ at₃ rs (b .piece .inside) e₃ in
+      let allowed = outside-faultless 3 0 (T .lastJoin version) j (a .faultless) in
+      let same : joinNumber (joinOf j) ≡ j = join-number covered version j allowed in
+      moved (λ (x : Fragment) (k : ℕ). Sound s fragmentBytes (FragmentFits T version outputs ofQ used) at x k) k₃
       (record {
-        piece = rw (join-number j (outside-faultless 0 1 j (a .faultless)), d .good .0) (join-pieces (a .piece) (join-pieces (b .piece) (d .piece)));
-        good = (rw (d .good .0) (outside-faultless 1 8 n (b .faultless)), d .good .1);
+        piece = rw (same, d .good .0) (join-pieces (a .piece) (join-pieces (b .piece) (d .piece)));
+        good = (rw same (allowed .1), (rw (d .good .0) (outside-faultless 3 1 8 n (b .faultless)), d .good .1));
       })
 
-  pub fragments-sound : Bytes s → (n used at end : ℕ) (fs : List Fragment) → at ≤ length s → read s (fragments outputs ofQ used n) at ≡ got fs end
-      → Sound s (each fragmentBytes) (λ (ys : List Fragment). (length ys ≡ n) × AllGood fragmentNames (FragmentFits outputs ofQ) used ys) at fs end
+  pub fragments-sound : Bytes s → (n used at end : ℕ) (fs : List Fragment) → at ≤ length s → read s (fragments T version outputs ofQ used n) at ≡ got fs end
+      → Sound s (each fragmentBytes) (λ (ys : List Fragment). (length ys ≡ n) × AllGood fragmentNames (FragmentFits T version outputs ofQ) used ys) at fs end
   unfolding fragments
   fragments-sound bytes n used at end fs h e =
-      several-sound s (fragment outputs ofQ) fragmentNames fragmentBytes (FragmentFits outputs ofQ) (fragment-sound bytes) n used at end fs h e
+      several-sound s (fragment T version outputs ofQ) fragmentNames fragmentBytes (FragmentFits T version outputs ofQ) (fragment-sound bytes) n used at end fs h e
 
-  fragment-complete : (used at : ℕ) (f : Fragment) (rest : List ℕ) → at ≤ length s → FragmentFits outputs ofQ used f → drop at s ≡ fragmentBytes f ++ rest
-      → Finds s (read s (fragment outputs ofQ used) at) f rest
+  fragment-complete : (used at : ℕ) (f : Fragment) (rest : List ℕ) → at ≤ length s → FragmentFits T version outputs ofQ used f → drop at s ≡ fragmentBytes f ++ rest
+      → Finds s (read s (fragment T version outputs ofQ used) at) f rest
   unfolding ranges
   fragment-complete used at f rest h g e =
       let n : ℕ = length (f .ranges) in
       let j : ℕ = joinNumber (f .join) in
       let tail : List ℕ = each rangeBytes (f .ranges) in
-      let jb : Between 0 1 (joinNumber (f .join)) = join-small (f .join) in
-      let a : Finds s (fieldAt s 1 (outside 0 1) at) j ((le 1 n ++ tail) ++ rest)
-      = field-complete s 1 (outside 0 1) j at h (omega (arith, jb)) (outside-right 0 1 j jb) e in
-      let b : Finds s (fieldAt s 1 (outside 1 8) (a .end)) n (tail ++ rest)
-      = field-complete s 1 (outside 1 8) n (a .end) (a .inside) (omega (arith, g .0)) (outside-right 1 8 n (g .0)) (a .left) in
-      let d : Finds s (read s (ranges outputs ofQ used n) (b .end)) (f .ranges) rest
-      = several-complete s (range outputs ofQ) rangeName rangeBytes (RangeFits outputs ofQ) (range-complete s outputs ofQ)
-      (f .ranges) used (b .end) rest (b .inside) (g .1) (b .left) in
+      let a : Finds s (fieldAt s 1 (joinFault T version) at) j ((le 1 n ++ tail) ++ rest)
+      = field-complete s 1 (joinFault T version) j at h (omega (arith, g .0, covered .joins version)) (outside-right 4 0 (T .lastJoin version) j (omega arith, g .0)) e in
+      let b : Finds s (fieldAt s 1 (countFault mostRanges) (a .end)) n (tail ++ rest)
+      = field-complete s 1 (countFault mostRanges) n (a .end) (a .inside) (omega (arith, g .1 .0)) (outside-right 4 1 8 n (g .1 .0)) (a .left) in
+      let d : Finds s (read s (ranges T version outputs ofQ used n) (b .end)) (f .ranges) rest
+      = several-complete s (range T version outputs ofQ) rangeName rangeBytes (RangeFits outputs ofQ) (range-complete covered s version outputs ofQ)
+      (f .ranges) used (b .end) rest (b .inside) (g .1 .1) (b .left) in
       record {
         end = d .end;
         reads = read-fragment used at ∙ rw (a .reads, b .reads, d .reads, join-of (f .join));
@@ -137,56 +136,59 @@ module _ (s : List ℕ) (outputs : ℕ) (ofQ : Bool) where
         inside = d .inside;
       }
 
-  pub fragments-complete : (fs : List Fragment) (used at : ℕ) (rest : List ℕ) → at ≤ length s → AllGood fragmentNames (FragmentFits outputs ofQ) used fs
-      → drop at s ≡ each fragmentBytes fs ++ rest → Finds s (read s (fragments outputs ofQ used (length fs)) at) fs rest
+  pub fragments-complete : (fs : List Fragment) (used at : ℕ) (rest : List ℕ) → at ≤ length s → AllGood fragmentNames (FragmentFits T version outputs ofQ) used fs
+      → drop at s ≡ each fragmentBytes fs ++ rest → Finds s (read s (fragments T version outputs ofQ used (length fs)) at) fs rest
   unfolding fragments
   fragments-complete fs used at rest h g e =
-      several-complete s (fragment outputs ofQ) fragmentNames fragmentBytes (FragmentFits outputs ofQ) fragment-complete fs used at rest h g e
+      several-complete s (fragment T version outputs ofQ) fragmentNames fragmentBytes (FragmentFits T version outputs ofQ) fragment-complete fs used at rest h g e
 
-  pub fragments-length : (used n at : ℕ) {end : ℕ} {fs : List Fragment} → read s (fragments outputs ofQ used n) at ≡ got fs end → length fs ≡ n
+  pub fragments-length : (used n at : ℕ) {end : ℕ} {fs : List Fragment} → read s (fragments T version outputs ofQ used n) at ≡ got fs end → length fs ≡ n
   unfolding fragments
-  fragments-length used n at e = several-length s (fragment outputs ofQ) fragmentNames n used at e
+  fragments-length used n at e = several-length s (fragment T version outputs ofQ) fragmentNames n used at e
 
 -- ---- a rule's eight bytes
 
-pub record HeaderFits (outputs : ℕ) (h : Header) : Type 0 where
+pub record HeaderFits (T : Terms) (version outputs : ℕ) (h : Header) : Type 0 where
+  pub kinds : T .firstKind version ≤ h .kind
   pub countP : Between 1 8 (h .countP)
   pub byKind′ : ByKind outputs (h .kind) (h .countQ) (h .trigger) (h .time)
 
-module _ (s : List ℕ) (outputs : ℕ) where
-  pub header-sound : Bytes s → (at end : ℕ) (h : Header) → read s (header outputs) at ≡ got h end → Sound s headerBytes (HeaderFits outputs) at h end
+module _ {T : Terms} (covered : Covered T) (s : List ℕ) (version outputs : ℕ) where
+  pub header-sound : Bytes s → (at end : ℕ) (h : Header) → read s (header T version outputs) at ≡ got h end → Sound s headerBytes (HeaderFits T version outputs) at h end
   unfolding header
   header-sound bytes at end h e =
-      let (k, at₁, e₁, k₁) = next-got (fieldAt s 1 (outside 0 2) at) e in
-      let (m, at₂, e₂, k₂) = next-got (fieldAt s 1 (outside 1 8) at₁) k₁ in
-      let (n, at₃, e₃, k₃) = next-got (fieldAt s 1 (byKind k (outside 1 8) dueZero) at₂) k₂ in
+      let (k, at₁, e₁, k₁) = next-got (fieldAt s 1 (kindFault T version) at) e in
+      let (m, at₂, e₂, k₂) = next-got (fieldAt s 1 (countFault mostFragments) at₁) k₁ in
+      let (n, at₃, e₃, k₃) = next-got (fieldAt s 1 (byKind k (countFault mostFragments) dueZero) at₂) k₂ in
       let (i, at₄, e₄, k₄) = next-got (fieldAt s 1 (byKind k dueZero (triggerFault outputs)) at₃) k₃ in
       let (t, at₅, e₅, k₅) = next-got (fieldAt s 4 (byKind k noFault dueZero) at₄) k₄ in
-      let a : FieldGot s 1 (outside 0 2) at k at₁ = field-sound bytes 1 (outside 0 2) e₁ in
-      let b : FieldGot s 1 (outside 1 8) at₁ m at₂ = field-sound bytes 1 (outside 1 8) e₂ in
-      let c : FieldGot s 1 (byKind k (outside 1 8) dueZero) at₂ n at₃ = field-sound bytes 1 (byKind k (outside 1 8) dueZero) e₃ in
+      let a : FieldGot s 1 (kindFault T version) at k at₁ = field-sound bytes 1 (kindFault T version) e₁ in
+      let b : FieldGot s 1 (countFault mostFragments) at₁ m at₂ = field-sound bytes 1 (countFault mostFragments) e₂ in
+      let c : FieldGot s 1 (byKind k (countFault mostFragments) dueZero) at₂ n at₃ = field-sound bytes 1 (byKind k (countFault mostFragments) dueZero) e₃ in
       let d : FieldGot s 1 (byKind k dueZero (triggerFault outputs)) at₃ i at₄ = field-sound bytes 1 (byKind k dueZero (triggerFault outputs)) e₄ in
       let f : FieldGot s 4 (byKind k noFault dueZero) at₄ t at₅ = field-sound bytes 4 (byKind k noFault dueZero) e₅ in
-      moved (λ (x : Header) (j : ℕ). Sound s headerBytes (HeaderFits outputs) at x j) k₅
+      let kind = outside-faultless 3 (T .firstKind version) 2 k (a .faultless) in
+      moved (λ (x : Header) (j : ℕ). Sound s headerBytes (HeaderFits T version outputs) at x j) k₅
       (record {
         piece = join-pieces (a .piece) (join-pieces (b .piece) (join-pieces (c .piece) (join-pieces (d .piece) (f .piece))));
         good = record {
-          countP = outside-faultless 1 8 m (b .faultless);
-          byKind′ = kind-faultless outputs k n i t (outside-faultless 0 2 k (a .faultless)) (c .faultless) (d .faultless) (f .faultless) (f .small);
+          kinds = kind .0;
+          countP = outside-faultless 3 1 8 m (b .faultless);
+          byKind′ = kind-faultless outputs k n i t (kind .1) (c .faultless) (d .faultless) (f .faultless) (f .small);
         };
       })
 
-  header-complete : (at : ℕ) (h : Header) (rest : List ℕ) → at ≤ length s → HeaderFits outputs h → drop at s ≡ headerBytes h ++ rest
-      → Finds s (read s (header outputs) at) h rest
+  header-complete : (at : ℕ) (h : Header) (rest : List ℕ) → at ≤ length s → HeaderFits T version outputs h → drop at s ≡ headerBytes h ++ rest
+      → Finds s (read s (header T version outputs) at) h rest
   unfolding header
   header-complete at h rest l g e =
       let w = kind-right outputs (h .kind) (h .countQ) (h .trigger) (h .time) (g .byKind′) in
-      let a : Finds s (fieldAt s 1 (outside 0 2) at) (h .kind) ((le 1 (h .countP) ++ (le 1 (h .countQ) ++ (le 1 (h .trigger) ++ le 4 (h .time)))) ++ rest)
-      = field-complete s 1 (outside 0 2) (h .kind) at l (omega (arith, w .kind)) (outside-right 0 2 (h .kind) (w .kind)) e in
-      let b : Finds s (fieldAt s 1 (outside 1 8) (a .end)) (h .countP) ((le 1 (h .countQ) ++ (le 1 (h .trigger) ++ le 4 (h .time))) ++ rest)
-      = field-complete s 1 (outside 1 8) (h .countP) (a .end) (a .inside) (omega (arith, g .countP)) (outside-right 1 8 (h .countP) (g .countP)) (a .left) in
-      let c : Finds s (fieldAt s 1 (byKind (h .kind) (outside 1 8) dueZero) (b .end)) (h .countQ) ((le 1 (h .trigger) ++ le 4 (h .time)) ++ rest)
-      = field-complete s 1 (byKind (h .kind) (outside 1 8) dueZero) (h .countQ) (b .end) (b .inside) (w .small .0) (w .countQ) (b .left) in
+      let a : Finds s (fieldAt s 1 (kindFault T version) at) (h .kind) ((le 1 (h .countP) ++ (le 1 (h .countQ) ++ (le 1 (h .trigger) ++ le 4 (h .time)))) ++ rest)
+      = field-complete s 1 (kindFault T version) (h .kind) at l (omega (arith, w .kind)) (outside-right 4 (T .firstKind version) 2 (h .kind) (g .kinds, w .kind)) e in
+      let b : Finds s (fieldAt s 1 (countFault mostFragments) (a .end)) (h .countP) ((le 1 (h .countQ) ++ (le 1 (h .trigger) ++ le 4 (h .time))) ++ rest)
+      = field-complete s 1 (countFault mostFragments) (h .countP) (a .end) (a .inside) (omega (arith, g .countP)) (outside-right 4 1 8 (h .countP) (g .countP)) (a .left) in
+      let c : Finds s (fieldAt s 1 (byKind (h .kind) (countFault mostFragments) dueZero) (b .end)) (h .countQ) ((le 1 (h .trigger) ++ le 4 (h .time)) ++ rest)
+      = field-complete s 1 (byKind (h .kind) (countFault mostFragments) dueZero) (h .countQ) (b .end) (b .inside) (w .small .0) (w .countQ) (b .left) in
       let d : Finds s (fieldAt s 1 (byKind (h .kind) dueZero (triggerFault outputs)) (c .end)) (h .trigger) (le 4 (h .time) ++ rest)
       = field-complete s 1 (byKind (h .kind) dueZero (triggerFault outputs)) (h .trigger) (c .end) (c .inside) (w .small .1) (w .trigger) (c .left) in
       let f : Finds s (fieldAt s 4 (byKind (h .kind) noFault dueZero) (d .end)) (h .time) rest
@@ -195,10 +197,10 @@ module _ (s : List ℕ) (outputs : ℕ) where
 
 -- ---- a rule
 
-pub record RuleFits (outputs : ℕ) (r : Rule) : Type 0 where
-  pub header : HeaderFits outputs (headerOf r)
-  pub p : AllGood fragmentNames (FragmentFits outputs false) (triggerSet (headerOf r)) (r .p)
-  pub q : AllGood fragmentNames (FragmentFits outputs true) (insertAll (triggerSet (headerOf r)) (orderingNames (r .p))) (inQ (r .kind))
+pub record RuleFits (T : Terms) (version outputs : ℕ) (r : Rule) : Type 0 where
+  pub header : HeaderFits T version outputs (headerOf r)
+  pub p : AllGood fragmentNames (FragmentFits T version outputs false) (triggerSet (headerOf r)) (r .p)
+  pub q : AllGood fragmentNames (FragmentFits T version outputs true) (insertAll (triggerSet (headerOf r)) (orderingNames (r .p))) (inQ (r .kind))
 
 pub nothing : {A : Type 0} (xs : List A) → length xs ≡ 0 → xs ≡ []
 nothing [] e = refl
@@ -221,24 +223,24 @@ kind-of (once i) = refl
 kind-of (repeated i) = refl
 kind-of (timed q t) = refl
 
-module _ (s : List ℕ) (outputs : ℕ) where
+module _ {T : Terms} (covered : Covered T) (s : List ℕ) (version outputs : ℕ) where
   -- a rule is read as its header, P and Q
   pub read-rule : (at : ℕ)
-      → read s (rule outputs) at
-      ≡ next (read s (header outputs) at) (λ h at₁. next (read s (fragments outputs false (triggerSet h) (h .countP)) at₁)
-      (λ p at₂. next (read s (fragments outputs true (insertAll (triggerSet h) (orderingNames p)) (h .countQ)) at₂) (λ q at₃. got (made h p q) at₃)))
+      → read s (rule T version outputs) at
+      ≡ next (read s (header T version outputs) at) (λ h at₁. next (read s (fragments T version outputs false (triggerSet h) (h .countP)) at₁)
+      (λ p at₂. next (read s (fragments T version outputs true (insertAll (triggerSet h) (orderingNames p)) (h .countQ)) at₂) (λ q at₃. got (made h p q) at₃)))
   unfolding rule
   read-rule at =
-      read-bind s (header outputs) _ at
-      ∙ next-same (read s (header outputs) at) (λ h at₁. read-bind s (fragments outputs false (triggerSet h) (h .countP)) _ at₁
-      ∙ next-same (read s (fragments outputs false (triggerSet h) (h .countP)) at₁)
-      (λ p at₂. read-bind s (fragments outputs true (insertAll (triggerSet h) (orderingNames p)) (h .countQ)) _ at₂))
+      read-bind s (header T version outputs) _ at
+      ∙ next-same (read s (header T version outputs) at) (λ h at₁. read-bind s (fragments T version outputs false (triggerSet h) (h .countP)) _ at₁
+      ∙ next-same (read s (fragments T version outputs false (triggerSet h) (h .countP)) at₁)
+      (λ p at₂. read-bind s (fragments T version outputs true (insertAll (triggerSet h) (orderingNames p)) (h .countQ)) _ at₂))
 
   made-sound : (h : Header) (p q : List Fragment) (at at₁ at₂ at₃ : ℕ) → headerOf (made h p q) ≡ h → inQ (kindOf (h .kind) (h .trigger) q (h .time)) ≡ q
-      → Sound s headerBytes (HeaderFits outputs) at h at₁
-      → Sound s (each fragmentBytes) (λ (ys : List Fragment). (length ys ≡ h .countP) × AllGood fragmentNames (FragmentFits outputs false) (triggerSet h) ys) at₁ p at₂
-      → Sound s (each fragmentBytes) (λ (ys : List Fragment). (length ys ≡ h .countQ) × AllGood fragmentNames (FragmentFits outputs true) (insertAll (triggerSet h) (orderingNames p)) ys) at₂ q at₃
-      → Sound s ruleBytes (RuleFits outputs) at (made h p q) at₃
+      → Sound s headerBytes (HeaderFits T version outputs) at h at₁
+      → Sound s (each fragmentBytes) (λ (ys : List Fragment). (length ys ≡ h .countP) × AllGood fragmentNames (FragmentFits T version outputs false) (triggerSet h) ys) at₁ p at₂
+      → Sound s (each fragmentBytes) (λ (ys : List Fragment). (length ys ≡ h .countQ) × AllGood fragmentNames (FragmentFits T version outputs true) (insertAll (triggerSet h) (orderingNames p)) ys) at₂ q at₃
+      → Sound s ruleBytes (RuleFits T version outputs) at (made h p q) at₃
   made-sound h p q at at₁ at₂ at₃ oh oq a b d =
       let Q : List Fragment = inQ (kindOf (h .kind) (h .trigger) q (h .time)) in
       record {
@@ -246,33 +248,33 @@ module _ (s : List ℕ) (outputs : ℕ) where
             (subst (λ (x : List Fragment). Piece s at (headerBytes h ++ (each fragmentBytes p ++ each fragmentBytes x)) at₃) (sym oq)
             (join-pieces (a .piece) (join-pieces (b .piece) (d .piece))));
         good = record {
-          header = subst (HeaderFits outputs) (sym oh) (a .good);
-          p = subst (λ (x : Header). AllGood fragmentNames (FragmentFits outputs false) (triggerSet x) p) (sym oh) (b .good .1);
-          q = subst (λ (x : Header). AllGood fragmentNames (FragmentFits outputs true) (insertAll (triggerSet x) (orderingNames p)) Q) (sym oh)
-              (subst (λ (x : List Fragment). AllGood fragmentNames (FragmentFits outputs true) (insertAll (triggerSet h) (orderingNames p)) x) (sym oq) (d .good .1));
+          header = subst (HeaderFits T version outputs) (sym oh) (a .good);
+          p = subst (λ (x : Header). AllGood fragmentNames (FragmentFits T version outputs false) (triggerSet x) p) (sym oh) (b .good .1);
+          q = subst (λ (x : Header). AllGood fragmentNames (FragmentFits T version outputs true) (insertAll (triggerSet x) (orderingNames p)) Q) (sym oh)
+              (subst (λ (x : List Fragment). AllGood fragmentNames (FragmentFits T version outputs true) (insertAll (triggerSet h) (orderingNames p)) x) (sym oq) (d .good .1));
         };
       }
 
-  pub rule-sound : Bytes s → (at end : ℕ) (r : Rule) → read s (rule outputs) at ≡ got r end → Sound s ruleBytes (RuleFits outputs) at r end
+  pub rule-sound : Bytes s → (at end : ℕ) (r : Rule) → read s (rule T version outputs) at ≡ got r end → Sound s ruleBytes (RuleFits T version outputs) at r end
   rule-sound bytes at end r e =
-      let (h, at₁, e₁, k₁) = next-got (read s (header outputs) at) (sym (read-rule at) ∙ e) in
-      let (p, at₂, e₂, k₂) = next-got (read s (fragments outputs false (triggerSet h) (h .countP)) at₁) k₁ in
-      let (q, at₃, e₃, k₃) = next-got (read s (fragments outputs true (insertAll (triggerSet h) (orderingNames p)) (h .countQ)) at₂) k₂ in
-      let a = header-sound s outputs bytes at at₁ h e₁ in
-      let b = fragments-sound s outputs false bytes (h .countP) (triggerSet h) at₁ at₂ p (a .piece .inside) e₂ in
-      let d = fragments-sound s outputs true bytes (h .countQ) (insertAll (triggerSet h) (orderingNames p)) at₂ at₃ q (b .piece .inside) e₃ in
+      let (h, at₁, e₁, k₁) = next-got (read s (header T version outputs) at) (sym (read-rule at) ∙ e) in
+      let (p, at₂, e₂, k₂) = next-got (read s (fragments T version outputs false (triggerSet h) (h .countP)) at₁) k₁ in
+      let (q, at₃, e₃, k₃) = next-got (read s (fragments T version outputs true (insertAll (triggerSet h) (orderingNames p)) (h .countQ)) at₂) k₂ in
+      let a = header-sound covered s version outputs bytes at at₁ h e₁ in
+      let b = fragments-sound covered s version outputs false bytes (h .countP) (triggerSet h) at₁ at₂ p (a .piece .inside) e₂ in
+      let d = fragments-sound covered s version outputs true bytes (h .countQ) (insertAll (triggerSet h) (orderingNames p)) at₂ at₃ q (b .piece .inside) e₃ in
       let o = header-of outputs (h .kind) (h .countP) (h .countQ) (h .trigger) (h .time) p q (a .good .byKind′) (b .good .0) (d .good .0) in
-      moved (λ (x : Rule) (j : ℕ). Sound s ruleBytes (RuleFits outputs) at x j) k₃ (made-sound h p q at at₁ at₂ at₃ (o .0) (o .1) a b d)
+      moved (λ (x : Rule) (j : ℕ). Sound s ruleBytes (RuleFits T version outputs) at x j) k₃ (made-sound h p q at at₁ at₂ at₃ (o .0) (o .1) a b d)
 
-  pub rule-complete : (at : ℕ) (r : Rule) (rest : List ℕ) → at ≤ length s → RuleFits outputs r → drop at s ≡ ruleBytes r ++ rest
-      → Finds s (read s (rule outputs) at) r rest
+  pub rule-complete : (at : ℕ) (r : Rule) (rest : List ℕ) → at ≤ length s → RuleFits T version outputs r → drop at s ≡ ruleBytes r ++ rest
+      → Finds s (read s (rule T version outputs) at) r rest
   rule-complete at r rest l g e =
       let P : List ℕ = each fragmentBytes (r .p) in
       let Q : List ℕ = each fragmentBytes (inQ (r .kind)) in
       let set : ℕ = triggerSet (headerOf r) in
-      let a : Finds s (read s (header outputs) at) (headerOf r) ((P ++ Q) ++ rest) = header-complete s outputs at (headerOf r) ((P ++ Q) ++ rest) l (g .header) e in
-      let b : Finds s (read s (fragments outputs false set (length (r .p))) (a .end)) (r .p) (Q ++ rest)
-      = fragments-complete s outputs false (r .p) set (a .end) (Q ++ rest) (a .inside) (g .p) (a .left ∙ append-assoc P Q rest) in
-      let d : Finds s (read s (fragments outputs true (insertAll set (orderingNames (r .p))) (length (inQ (r .kind)))) (b .end)) (inQ (r .kind)) rest
-      = fragments-complete s outputs true (inQ (r .kind)) (insertAll set (orderingNames (r .p))) (b .end) rest (b .inside) (g .q) (b .left) in
+      let a : Finds s (read s (header T version outputs) at) (headerOf r) ((P ++ Q) ++ rest) = header-complete covered s version outputs at (headerOf r) ((P ++ Q) ++ rest) l (g .header) e in
+      let b : Finds s (read s (fragments T version outputs false set (length (r .p))) (a .end)) (r .p) (Q ++ rest)
+      = fragments-complete covered s version outputs false (r .p) set (a .end) (Q ++ rest) (a .inside) (g .p) (a .left ∙ append-assoc P Q rest) in
+      let d : Finds s (read s (fragments T version outputs true (insertAll set (orderingNames (r .p))) (length (inQ (r .kind)))) (b .end)) (inQ (r .kind)) rest
+      = fragments-complete covered s version outputs true (inQ (r .kind)) (insertAll set (orderingNames (r .p))) (b .end) rest (b .inside) (g .q) (b .left) in
       record { end = d .end; reads = read-rule at ∙ rw (a .reads, b .reads, d .reads, kind-of (r .kind)); left = d .left; inside = d .inside }

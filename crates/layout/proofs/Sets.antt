@@ -14,6 +14,8 @@ use Rattle.pattern.specs.Meaning.{Range, Fragment, fragmentNames, orderingNames
 use Rattle.pattern.proofs.Basics.{in-left, in-right}
 use Rattle.names.specs.Names.{member, insert, insertAll}
 use Rattle.names.proofs.Sets.{member-insert, member-empty}
+use Rattle.layout.specs.Terms.{Terms}
+use Rattle.layout.specs.Layout.{JoinAllowed}
 use Rattle.layout.specs.Reading.{rangeName}
 use Rattle.layout.proofs.Forms.{AllGood}
 use Rattle.layout.proofs.Parts.{RangeFits, FragmentFits}
@@ -118,23 +120,25 @@ module _ (outputs : ℕ) (ofQ : Bool) where
   ranges-join w [] g f d = tt
   ranges-join w (r ∷ rs) g f d = ((g .0, (f .0, d .0)), ranges-join (insert w (r .name)) rs (g .1) (f .1) (d .1))
 
-  pub fragments-split : (w : ℕ) (fs : List Fragment) → AllGood fragmentNames (FragmentFits outputs ofQ) w fs
-      → Each WellFormedFragment fs × Fresh w (orderingNames fs) × Each Direction (orderingNames fs)
-  fragments-split w [] g = (tt, tt, tt)
-  fragments-split w (f ∷ fs) g =
-      let a = ranges-split w (f .ranges) (g .0 .1) in
-      let b = fragments-split (insertAll w (fragmentNames f)) fs (g .1) in (
-        (record { count = g .0 .0; ranges = a .0 }, b .0),
-        append-fresh w (fragmentNames f) (orderingNames fs) (a .1) (b .1),
-        each-append Direction (fragmentNames f) (orderingNames fs) (a .2) (b .2),
-      )
+  module _ (T : Terms) (version : ℕ) where
+    pub fragments-split : (w : ℕ) (fs : List Fragment) → AllGood fragmentNames (FragmentFits T version outputs ofQ) w fs
+        → Each WellFormedFragment fs × Fresh w (orderingNames fs) × Each Direction (orderingNames fs) × Each (JoinAllowed T version) fs
+    fragments-split w [] g = (tt, tt, tt, tt)
+    fragments-split w (f ∷ fs) g =
+        let a = ranges-split w (f .ranges) (g .0 .1 .1) in
+        let b = fragments-split (insertAll w (fragmentNames f)) fs (g .1) in (
+          (record { count = g .0 .1 .0; ranges = a .0 }, b .0),
+          append-fresh w (fragmentNames f) (orderingNames fs) (a .1) (b .1),
+          each-append Direction (fragmentNames f) (orderingNames fs) (a .2) (b .2),
+          (g .0 .0, b .3),
+        )
 
-  pub fragments-join : (w : ℕ) (fs : List Fragment) → Each WellFormedFragment fs → Fresh w (orderingNames fs) → Each Direction (orderingNames fs)
-      → AllGood fragmentNames (FragmentFits outputs ofQ) w fs
-  fragments-join w [] g f d = tt
-  fragments-join w (x ∷ fs) g f d =
-      let a = fresh-append w (fragmentNames x) (orderingNames fs) f in
-      let b = append-each Direction (fragmentNames x) (orderingNames fs) d in (
-        (g .0 .count, ranges-join w (x .ranges) (g .0 .ranges) (a .0) (b .0)),
-        fragments-join (insertAll w (fragmentNames x)) fs (g .1) (a .1) (b .1),
-      )
+    pub fragments-join : (w : ℕ) (fs : List Fragment) → Each WellFormedFragment fs → Fresh w (orderingNames fs) → Each Direction (orderingNames fs) → Each (JoinAllowed T version) fs
+        → AllGood fragmentNames (FragmentFits T version outputs ofQ) w fs
+    fragments-join w [] g f d j = tt
+    fragments-join w (x ∷ fs) g f d j =
+        let a = fresh-append w (fragmentNames x) (orderingNames fs) f in
+        let b = append-each Direction (fragmentNames x) (orderingNames fs) d in (
+          (j .0, (g .0 .count, ranges-join w (x .ranges) (g .0 .ranges) (a .0) (b .0))),
+          fragments-join (insertAll w (fragmentNames x)) fs (g .1) (a .1) (b .1) (j .1),
+        )

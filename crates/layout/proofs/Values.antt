@@ -9,28 +9,32 @@ use borrow.Author.Tests.{lt-ltb, le-ltb, ltb-false, eqb-true, eq-eqb}
 use Rattle.pattern.specs.Meaning.{Between}
 use Rattle.names.specs.Names.{member, insert, withName}
 use Rattle.layout.specs.Layout.{Input}
-use Rattle.layout.specs.Reading.{_when_or_, noFault, unlike, dueZero, outside, below, inOrder, nameFault, triggerFault, byKind}
+use Rattle.layout.specs.Terms.{_when_or_, noFault, Terms, eightFirst, today, Covered}
+use Rattle.layout.specs.Reading.{outside, unlike, dueZero, countFault, below, mostFault, nameFault, triggerFault, byKind}
 
-pub unlike-faultless : (k due x : ℕ) → unlike (suc k) due x ≡ 0 → x ≡ due
-unlike-faultless k due x = go (eqb x due) refl
+-- on terms that the meaning covers, as today's are
+pub today-covered : Covered today
+today-covered = record { versions = omega arith; joins = λ v. omega arith; ends = λ v. refl; rules = omega arith; faultless = order; right = refl }
   where
-    go : (b : Bool) → eqb x due ≡ b → (suc k when not b or 0) ≡ 0 → x ≡ due
-    go true e z = eqb-true x due e
-    go false e z = absurd (omega (arith, z))
+    order : (a b c : Bool) → eightFirst a b c ≡ 0 → (a ≡ false) × (b ≡ false) × (c ≡ false)
+    order true b c z = absurd (omega (arith, z))
+    order false true c z = absurd (omega (arith, z))
+    order false false true z = absurd (omega (arith, z))
+    order false false false z = (refl, refl, refl)
 
-pub unlike-right : (k x : ℕ) → unlike k x x ≡ 0
-unlike-right k x = rw (eq-eqb x x refl)
-
-pub outside-faultless : (first last x : ℕ) → outside first last x ≡ 0 → Between first last x
-outside-faultless first last x = go (ltb x first) (ltb last x) refl refl
+pub outside-faultless : (k first last x : ℕ) → outside (suc k) first last x ≡ 0 → Between first last x
+outside-faultless k first last x = go (ltb x first) (ltb last x) refl refl
   where
-    go : (a b : Bool) → ltb x first ≡ a → ltb last x ≡ b → (4 when a or 4 when b or 0) ≡ 0 → Between first last x
+    go : (a b : Bool) → ltb x first ≡ a → ltb last x ≡ b → (suc k when a or suc k when b or 0) ≡ 0 → Between first last x
     go true b _ _ z = absurd (omega (arith, z))
     go false true _ _ z = absurd (omega (arith, z))
     go false false p q z = (ltb-false x first p, ltb-false last x q)
 
-pub outside-right : (first last x : ℕ) → Between first last x → outside first last x ≡ 0
-outside-right first last x h = rw (le-ltb x first (h .0), le-ltb last x (h .1))
+pub outside-right : (k first last x : ℕ) → Between first last x → outside k first last x ≡ 0
+outside-right k first last x h = rw (le-ltb x first (h .0), le-ltb last x (h .1))
+
+pub unlike-faultless : (k due x : ℕ) → unlike (suc k) due x ≡ 0 → x ≡ due
+unlike-faultless k due x z = omega (arith, outside-faultless k due due x z)
 
 pub below-faultless : (least x : ℕ) → below least x ≡ 0 → least ≤ x
 below-faultless least x = go (ltb x least) refl
@@ -42,28 +46,29 @@ below-faultless least x = go (ltb x least) refl
 pub below-right : (least x : ℕ) → least ≤ x → below least x ≡ 0
 below-right least x h = rw (le-ltb x least h)
 
--- no fault in the order of one field: none of the three
-order-faultless : (a b c : Bool) → inOrder a b c ≡ 0 → (a ≡ false) × (b ≡ false) × (c ≡ false)
-order-faultless true b c z = absurd (omega (arith, z))
-order-faultless false true c z = absurd (omega (arith, z))
-order-faultless false false true z = absurd (omega (arith, z))
-order-faultless false false false z = (refl, refl, refl)
-
 -- a name that may come after the names so far, in Q or not
 abbrev pub NameFits : ℕ → Bool → ℕ → ℕ → Type 0
 NameFits outputs ofQ used n = (member used n ≡ false) × ((ofQ && not (member outputs n)) ≡ false)
 
-pub name-faultless : (outputs : ℕ) (ofQ : Bool) (used n : ℕ) → nameFault outputs ofQ used n ≡ 0 → (n ≤ 63) × NameFits outputs ofQ used n
-name-faultless outputs ofQ used n z = let f = order-faultless (ltb 63 n) _ _ z in (ltb-false 63 n (f .0), (f .1, f .2))
+module _ {T : Terms} (covered : Covered T) where
+  pub name-faultless : (outputs : ℕ) (ofQ : Bool) (used n : ℕ) → nameFault T outputs ofQ used n ≡ 0 → (n ≤ 63) × NameFits outputs ofQ used n
+  name-faultless outputs ofQ used n z = let f = covered .faultless (ltb 63 n) _ _ z in (ltb-false 63 n (f .0), (f .1, f .2))
 
-pub name-right : (outputs : ℕ) (ofQ : Bool) (used n : ℕ) → n ≤ 63 → NameFits outputs ofQ used n → nameFault outputs ofQ used n ≡ 0
-name-right outputs ofQ used n h f = rw (le-ltb 63 n h, f .0, f .1)
+  pub name-right : (outputs : ℕ) (ofQ : Bool) (used n : ℕ) → n ≤ 63 → NameFits outputs ofQ used n → nameFault T outputs ofQ used n ≡ 0
+  name-right outputs ofQ used n h f = go (le-ltb 63 n h) (f .0) (f .1)
+    where
+      go : {a b c : Bool} → a ≡ false → b ≡ false → c ≡ false → T .inOrder a b c ≡ 0
+      go p q r = rw (p, q, r) (covered .right)
+
+  -- the meaning has no v = 0 yet
+  pub most-is : (version u v : ℕ) → mostFault (T .endless version) u v ≡ below u v
+  most-is version u v = rw (covered .ends version)
 
 abbrev pub TriggerFits : ℕ → ℕ → Type 0
 TriggerFits outputs i = (i ≤ 63) × Input outputs i
 
 pub trigger-faultless : (outputs i : ℕ) → triggerFault outputs i ≡ 0 → TriggerFits outputs i
-trigger-faultless outputs i z = let f = order-faultless (ltb 63 i) false _ z in (ltb-false 63 i (f .0), f .2)
+trigger-faultless outputs i z = let f = today-covered .faultless (ltb 63 i) false _ z in (ltb-false 63 i (f .0), f .2)
 
 trigger-right : (outputs i : ℕ) → TriggerFits outputs i → triggerFault outputs i ≡ 0
 trigger-right outputs i h = rw (le-ltb 63 i (h .0), h .1)
@@ -75,16 +80,16 @@ ByKind outputs (suc zero) n i t = (n ≡ 0) × TriggerFits outputs i × (t ≡ 0
 ByKind outputs (suc (suc zero)) n i t = Between 1 8 n × (i ≡ 0) × (t ≤ 4294967295)
 ByKind outputs (suc (suc (suc k))) n i t = ⊥
 
-pub kind-faultless : (outputs k n i t : ℕ) → Between 0 2 k → byKind k (outside 1 8) dueZero n ≡ 0 → byKind k dueZero (triggerFault outputs) i ≡ 0
+pub kind-faultless : (outputs k n i t : ℕ) → k ≤ 2 → byKind k (countFault 8) dueZero n ≡ 0 → byKind k dueZero (triggerFault outputs) i ≡ 0
     → byKind k noFault dueZero t ≡ 0 → t < 256 ^ 4 → ByKind outputs k n i t
 kind-faultless outputs zero n i t h a b d l = (unlike-faultless 4 0 n a, trigger-faultless outputs i b, unlike-faultless 4 0 t d)
 kind-faultless outputs (suc zero) n i t h a b d l = (unlike-faultless 4 0 n a, trigger-faultless outputs i b, unlike-faultless 4 0 t d)
-kind-faultless outputs (suc (suc zero)) n i t h a b d l = (outside-faultless 1 8 n a, unlike-faultless 4 0 i b, omega (arith, l))
-kind-faultless outputs (suc (suc (suc k))) n i t h a b d l = absurd (omega (arith, h .1))
+kind-faultless outputs (suc (suc zero)) n i t h a b d l = (outside-faultless 3 1 8 n a, unlike-faultless 4 0 i b, omega (arith, l))
+kind-faultless outputs (suc (suc (suc k))) n i t h a b d l = absurd (omega (arith, h))
 
 pub record KindRight (outputs k n i t : ℕ) : Type 0 where
-  pub kind : Between 0 2 k
-  pub countQ : byKind k (outside 1 8) dueZero n ≡ 0
+  pub kind : k ≤ 2
+  pub countQ : byKind k (countFault 8) dueZero n ≡ 0
   pub trigger : byKind k dueZero (triggerFault outputs) i ≡ 0
   pub time : byKind k noFault dueZero t ≡ 0
   pub small : (n < 256) × (i < 256) × (t < 256 ^ 4)
@@ -106,7 +111,7 @@ kind-right outputs (suc zero) n i t (a, b, d) = record {
 }
 kind-right outputs (suc (suc zero)) n i t (a, b, d) = record {
   kind = omega arith;
-  countQ = outside-right 1 8 n a;
+  countQ = outside-right 4 1 8 n a;
   trigger = rw b;
   time = refl;
   small = omega (arith, a, b, d);

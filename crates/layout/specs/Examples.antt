@@ -7,11 +7,12 @@ use Rattle.pattern.specs.Meaning.{all, repeated}
 use Rattle.names.specs.Names.{member, insert}
 use Rattle.layout.specs.Layout.{Sheet, encode}
 use Rattle.layout.specs.Form.{number, fieldAt}
-use Rattle.layout.specs.Reading.{accepted, refused, readSheet, sheet, rules, rule, header, fragments, fragment, ranges, range, several}
+use Rattle.layout.specs.Reading.{accepted, refused, readSheet, readSheetOn, sheet, rules, rule, header, fragments, fragment, ranges, range, several}
 
 -- "book.lob holds R alone with outputs 0", R being kind 1, {0, 1} all before 2, bounds [1,1]
 abbrev pub printed : Sheet
 printed = record {
+  version = 1;
   outputs = 0;
   rules = record {
     kind = repeated 2;
@@ -29,18 +30,18 @@ pub encoded : encode printed ≡ printedBytes
 encoded = refl
 
 pub reads : readSheet printedBytes ≡ accepted printed
-unfolding readSheet sheet rules rule header fragments fragment ranges range fieldAt number several member insert
+unfolding readSheetOn sheet rules rule header fragments fragment ranges range fieldAt number several member insert
 reads = refl
 
 -- the outputs do not fit; name 2, the trigger, comes again; a byte is left over
 pub short : readSheet (take 12 printedBytes) ≡ refused 1 5
-unfolding readSheet sheet rules rule header fragments fragment ranges range fieldAt number several member insert
+unfolding readSheetOn sheet rules rule header fragments fragment ranges range fieldAt number several member insert
 short = refl
 
 pub twice : readSheet (set printedBytes 29 2) ≡ refused 8 29
-unfolding readSheet sheet rules rule header fragments fragment ranges range fieldAt number several member insert
+unfolding readSheetOn sheet rules rule header fragments fragment ranges range fieldAt number several member insert
 twice = refl
 
 pub longer : readSheet (printedBytes ++ (0 ∷ [])) ≡ refused 10 34
-unfolding readSheet sheet rules rule header fragments fragment ranges range fieldAt number several member insert
+unfolding readSheetOn sheet rules rule header fragments fragment ranges range fieldAt number several member insert
 longer = refl

@@ -4,13 +4,16 @@
 use mathlib.Core.Path.{_≡_}
 use mathlib.Core.Bool.{true, false}
 use mathlib.Core.List.{List, [], _∷_, _++_}
-use Prim.Native.Nat.{ℕ, zero, suc, _/_, _%_, _^_, _<_}
+use Prim.Native.Nat.{ℕ, zero, suc, _/_, _%_, _^_, _<_, _≤_}
 use lib.ListN.{length}
 use Rattle.pattern.specs.Lists.{Each}
 use Rattle.pattern.specs.Meaning.{Range, Join, all, any, Fragment, Kind, once, repeated, timed, Rule, orderingNames, Between, WellFormed}
 use Rattle.names.specs.Names.{member}
+use Rattle.layout.specs.Terms.{Terms, today}
 
 pub record Sheet : Type 0 where
+  -- "version (u16, 1)"
+  pub version : ℕ
   -- "bit n is set if name n is an output of the plugin, clear if an input"
   pub outputs : ℕ
   -- "Rules are numbered from 0 in file order"
@@ -27,6 +30,19 @@ le (suc n) x = x % 256 ∷ le n (x / 256)
 abbrev pub each : {A B : Type 0} → (A → List B) → List A → List B
 each f [] = []
 each f (x ∷ xs) = f x ++ each f xs
+
+-- "kind (0, 1, 2)"; "fragments in P (1 to 8)"; "range count (1 to 8)"; names are 0 to 63
+abbrev pub lastKind : ℕ
+lastKind = 2
+
+abbrev pub mostFragments : ℕ
+mostFragments = 8
+
+abbrev pub mostRanges : ℕ
+mostRanges = 8
+
+abbrev pub lastName : ℕ
+lastName = 63
 
 -- "join (0 all, 1 any)"
 abbrev pub joinNumber : Join → ℕ
@@ -93,13 +109,9 @@ ruleBytes r = headerBytes (headerOf r) ++ (each fragmentBytes (r .p) ++ each fra
 abbrev pub mark : ℕ
 mark = 0x42_4F_4C
 
--- "version (u16, 1)"
-abbrev pub version : ℕ
-version = 1
-
 -- "Header, 14 bytes: the mark, version (u16, 1), outputs (u64), rule count (1 to 16)", then each rule
 abbrev pub encode : Sheet → List ℕ
-encode S = le 3 mark ++ (le 2 version ++ (le 8 (S .outputs) ++ (le 1 (length (S .rules)) ++ each ruleBytes (S .rules))))
+encode S = le 3 mark ++ (le 2 (S .version) ++ (le 8 (S .outputs) ++ (le 1 (length (S .rules)) ++ each ruleBytes (S .rules))))
 
 -- ---- well-formed
 
@@ -115,15 +127,28 @@ Directed outputs (once i) = Input outputs i
 Directed outputs (repeated i) = Input outputs i
 Directed outputs (timed q t) = Each (Output outputs) (orderingNames q)
 
--- a rule that may stand in a sheet with these outputs
-pub record WellFormedRule (outputs : ℕ) (r : Rule) : Type 0 where
-  pub formed : WellFormed r
-  pub directed : Directed outputs (r .kind)
+module _ (T : Terms) where
+  -- the version allows the fragment's join
+  abbrev pub JoinAllowed : ℕ → Fragment → Type 0
+  JoinAllowed version f = joinNumber (f .join) ≤ T .lastJoin version
 
-pub record WellFormedSheet (S : Sheet) : Type 0 where
-  pub outputs : S .outputs < 2 ^ 64
-  pub count : Between 1 16 (length (S .rules))
-  pub rules : Each (WellFormedRule (S .outputs)) (S .rules)
+  -- a rule that may stand in a sheet of this version with these outputs
+  pub record WellFormedRule (version outputs : ℕ) (r : Rule) : Type 0 where
+    pub formed : WellFormed r
+    pub directed : Directed outputs (r .kind)
+    -- the version allows its kind and its joins
+    pub kinds : T .firstKind version ≤ kindNumber (r .kind)
+    pub joinsP : Each (JoinAllowed version) (r .p)
+    pub joinsQ : Each (JoinAllowed version) (inQ (r .kind))
+
+  pub record WellFormedOn (S : Sheet) : Type 0 where
+    pub known : Between 1 (T .newest) (S .version)
+    pub outputs : S .outputs < 2 ^ 64
+    pub count : Between 1 (T .mostRules) (length (S .rules))
+    pub rules : Each (WellFormedRule (S .version) (S .outputs)) (S .rules)
+
+abbrev pub WellFormedSheet : Sheet → Type 0
+WellFormedSheet = WellFormedOn today
 
 -- "A sheet has at most 5,774 bytes"
 abbrev pub longest : ℕ

@@ -7,55 +7,66 @@ use lib.Dec.{ltb, eqb}
 use lib.ListN.{length}
 use Rattle.pattern.specs.Meaning.{Range, Join, all, any, Fragment, fragmentNames, orderingNames, Kind, once, repeated, timed, Rule}
 use Rattle.names.specs.Names.{member, insert, insertAll}
-use Rattle.layout.specs.Layout.{Sheet, Header, mark, version}
+use Rattle.layout.specs.Terms.{_when_or_, noFault, Terms, today}
+use Rattle.layout.specs.Layout.{Sheet, Header, mark, lastKind, mostFragments, mostRanges, lastName}
 use Rattle.layout.specs.Form.{Form, done, field, _>>=_, ask, Got, got, stopped, read}
 
 -- ---- the faults of a field's value: the number of the first that it has, or 0
 
-infixr 20 _when_or_
-abbrev pub _when_or_ : ℕ → Bool → ℕ → ℕ
-k when b or rest = cond b k rest
+-- a value from first to last, and the fault of any other
+abbrev pub outside : ℕ → ℕ → ℕ → ℕ → ℕ
+outside k first last x = k when ltb x first or k when ltb last x or 0
 
-abbrev pub noFault : ℕ → ℕ
-noFault x = 0
-
--- a field that must have one value: "mark | 2 other bytes", "version | 3 not 1"
+-- a field that must have one value: "mark | 2 other bytes"
 abbrev pub unlike : ℕ → ℕ → ℕ → ℕ
-unlike k due x = k when not (eqb x due) or 0
+unlike k due = outside k due due
 
 abbrev pub markFault : ℕ → ℕ
 markFault = unlike 2 mark
-
-abbrev pub versionFault : ℕ → ℕ
-versionFault = unlike 3 version
 
 -- "Q count, trigger, t | 5 not 0 where 0 is due": such a field is looked at for 1 and 5 only
 abbrev pub dueZero : ℕ → ℕ
 dueZero = unlike 5 0
 
--- "count, kind, join | 4 outside its values"
-abbrev pub outside : ℕ → ℕ → ℕ → ℕ
-outside first last x = 4 when ltb x first or 4 when ltb last x or 0
-
--- "rule count (1 to 16)"
-abbrev pub rulesFault : ℕ → ℕ
-rulesFault = outside 1 16
+-- "count, kind, join | 4 outside its values": a count, from 1 on
+abbrev pub countFault : ℕ → ℕ → ℕ
+countFault most = outside 4 1 most
 
 -- "u; v | 7 u is 0; v < u": a bound below the least that it may be, 1 for u and u for v
 abbrev pub below : ℕ → ℕ → ℕ
 below least x = 7 when ltb x least or 0
 
--- "At one field the order is 1, 6, 8, 9": 1 comes before any look at the value (`fieldAt`), and here stand the others: above 63, already in the rule, of the wrong direction
-abbrev pub inOrder : Bool → Bool → Bool → ℕ
-inOrder above again misdirected = 6 when above or 8 when again or 9 when misdirected or 0
+abbrev pub leastFault : ℕ → ℕ
+leastFault = below 1
 
--- a range's name: "8 already in the rule", of which `used` is the set of names so far; "9 .. Q name .. an input"
-abbrev pub nameFault : ℕ → Bool → ℕ → ℕ → ℕ
-nameFault outputs ofQ used n = inOrder (ltb 63 n) (member used n) (ofQ && not (member outputs n))
+-- v, where v = 0 is let in
+abbrev pub mostFault : Bool → ℕ → ℕ → ℕ
+mostFault endless u v = cond (endless && eqb v 0) 0 (below u v)
 
 -- a trigger is the first name of its rule: "9 trigger .. an output"
 abbrev pub triggerFault : ℕ → ℕ → ℕ
-triggerFault outputs i = inOrder (ltb 63 i) false (member outputs i)
+triggerFault outputs i = 6 when ltb lastName i or 9 when member outputs i or 0
+
+module _ (T : Terms) where
+  -- "version | 3 not 1"
+  abbrev pub versionFault : ℕ → ℕ
+  versionFault = outside 3 1 (T .newest)
+
+  -- "rule count (1 to 16)"
+  abbrev pub rulesFault : ℕ → ℕ
+  rulesFault = countFault (T .mostRules)
+
+  -- "kind (0, 1, 2)"
+  abbrev pub kindFault : ℕ → ℕ → ℕ
+  kindFault version = outside 4 (T .firstKind version) lastKind
+
+  -- "join (0 all, 1 any)"
+  abbrev pub joinFault : ℕ → ℕ → ℕ
+  joinFault version = outside 4 0 (T .lastJoin version)
+
+  -- a range's name: "8 already in the rule", of which `used` is the set of names so far; "9 .. Q name .. an input"
+  abbrev pub nameFault : ℕ → Bool → ℕ → ℕ → ℕ
+  nameFault outputs ofQ used n = T .inOrder (ltb lastName n) (member used n) (ofQ && not (member outputs n))
 
 -- ---- the sheet as a form
 
@@ -87,12 +98,12 @@ triggerSet h = byKind (h .kind) 0 (insert 0 (h .trigger))
 abbrev pub rangeName : Range → List ℕ
 rangeName r = r .name ∷ []
 
-module _ (outputs : ℕ) where
+module _ (T : Terms) (version outputs : ℕ) where
   unfoldable pub range : Bool → ℕ → Form Range
   range ofQ used = do
-    n ← ask 1 (nameFault outputs ofQ used)
-    u ← ask 2 (below 1)
-    v ← ask 2 (below u)
+    n ← ask 1 (nameFault T outputs ofQ used)
+    u ← ask 2 leastFault
+    v ← ask 2 (mostFault (T .endless version) u)
     done (record { name = n; u = u; v = v })
 
   unfoldable pub ranges : Bool → ℕ → ℕ → Form (List Range)
@@ -100,8 +111,8 @@ module _ (outputs : ℕ) where
 
   unfoldable pub fragment : Bool → ℕ → Form Fragment
   fragment ofQ used = do
-    j ← ask 1 (outside 0 1)
-    n ← ask 1 (outside 1 8)
+    j ← ask 1 (joinFault T version)
+    n ← ask 1 (countFault mostRanges)
     rs ← ranges ofQ used n
     done (record { join = joinOf j; ranges = rs })
 
@@ -110,9 +121,9 @@ module _ (outputs : ℕ) where
 
   unfoldable pub header : Form Header
   header = do
-    k ← ask 1 (outside 0 2)
-    p ← ask 1 (outside 1 8)
-    q ← ask 1 (byKind k (outside 1 8) dueZero)
+    k ← ask 1 (kindFault T version)
+    p ← ask 1 (countFault mostFragments)
+    q ← ask 1 (byKind k (countFault mostFragments) dueZero)
     i ← ask 1 (byKind k dueZero (triggerFault outputs))
     t ← ask 4 (byKind k noFault dueZero)
     done (record { kind = k; countP = p; countQ = q; trigger = i; time = t })
@@ -127,14 +138,14 @@ module _ (outputs : ℕ) where
   unfoldable pub rules : ℕ → Form (List Rule)
   rules n = several (λ _. rule) (λ _. []) 0 n
 
-unfoldable pub sheet : Form Sheet
-sheet = do
+unfoldable pub sheet : Terms → Form Sheet
+sheet T = do
   m ← ask 3 markFault
-  v ← ask 2 versionFault
+  v ← ask 2 (versionFault T)
   o ← ask 8 noFault
-  n ← ask 1 rulesFault
-  rs ← rules o n
-  done (record { outputs = o; rules = rs })
+  n ← ask 1 (rulesFault T)
+  rs ← rules T v o n
+  done (record { version = v; outputs = o; rules = rs })
 
 -- ---- the whole answer
 
@@ -148,5 +159,13 @@ abbrev pub atEnd : List ℕ → Got Sheet → Outcome
 atEnd s (got S end) = cond (ltb end (length s)) (refused 10 end) (accepted S)
 atEnd s (stopped k place) = refused k place
 
-unfoldable pub readSheet : List ℕ → Outcome
-readSheet s = atEnd s (read s sheet 0)
+-- what the caller's terms say of the number of bytes comes before the first field, and its place is 0
+abbrev pub unlessLong : ℕ → Outcome → Outcome
+unlessLong zero o = o
+unlessLong (suc k) o = refused (suc k) 0
+
+unfoldable pub readSheetOn : Terms → List ℕ → Outcome
+readSheetOn T s = unlessLong (T .bytes (length s)) (atEnd s (read s (sheet T) 0))
+
+abbrev pub readSheet : List ℕ → Outcome
+readSheet = readSheetOn today

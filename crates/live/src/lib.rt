@@ -2,7 +2,7 @@
 // writes and nothing else changes, and the monitor's 34 words. An answer is one number (crate `replies`). The number in a call's name is that of the layout of what is lent: a host of
 // another layout does not link.
 ghost use mathlib.Core.Path.{_≡_};
-ghost use Rattle.layout.specs.Layout.{version};
+ghost use Rattle.layout.specs.Terms.{today};
 ghost use Rattle.words.specs.Words.{heldBy};
 ghost use Rattle.answers.specs.declared.Observation.the-variants.{Event, Clock};
 ghost use Rattle.monitor.specs.Promise.{inWords, Freshes};
@@ -96,7 +96,7 @@ pub extern "C" fn guard_library_version() -> u32
 // The newest version of a sheet that is read.
 #[no_mangle]
 pub extern "C" fn guard_sheet_version() -> u32
-    ensures { λ r. ⌜ r ≡ version ⌝ }
+    ensures { λ r. ⌜ r ≡ today .newest ⌝ }
 {
     NEWEST_SHEET
 }

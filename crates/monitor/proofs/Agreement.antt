@@ -25,7 +25,7 @@ use Rattle.layout.specs.Layout.{Sheet, WellFormedSheet, Bytes}
 use Rattle.layout.specs.Pages.{ruleAt}
 use Rattle.layout.specs.Reading.{accepted, readSheet}
 use Rattle.layout.proofs.Acceptance.{accepted-is-encoded}
-use Rattle.layout.proofs.Accepted.{rules-formed}
+use Rattle.layout.proofs.Accepted.{rules-formed, rule-formed}
 use Rattle.tables.specs.Cells.{isTimed}
 use Rattle.book.specs.Books.{Translates}
 use Rattle.book.specs.declared.Book.{Book}
@@ -38,7 +38,6 @@ use Rattle.opening.specs.Fresh.{freshState, freshHeld}
 use Rattle.monitor.specs.Promise.{seen, valuesOf, verdictIn, noModel, modelAt, Represents, Tracks, Form, inWords, Follows, Observes, Freshes, Run, done, more, CodeAgreement}
 use Rattle.answers.specs.declared.Observation.{Observation}
 use Rattle.answers.specs.declared.Answer.{Answer}
-use Rattle.monitor.proofs.Holding.{rule-formed}
 
 -- ---- the fresh monitor
 

@@ -5,6 +5,7 @@ ghost use Prim.Native.Nat.{_+_, _*_, _^_, _<_, _≤_};
 ghost use lib.ListN.{length};
 ghost use Rattle.names.specs.Names.{insert};
 ghost use Rattle.layout.specs.Form.{read};
+ghost use Rattle.layout.specs.Terms.{today};
 ghost use Rattle.layout.specs.Reading.{byKind, range, ranges, fragment, fragments, header, rule, rules};
 ghost use Rattle.layout.specs.Pages.{triggerFragments};
 ghost use Rattle.fields.specs.Told.{Told};
@@ -39,6 +40,7 @@ fn range_word(n: u64, u: u64, v: u64) -> u64
 fn range(
     s: &[u8],
     from: usize,
+    version: u64,
     outputs: u64,
     of_q: bool,
     before: u64,
@@ -46,17 +48,17 @@ fn range(
     k: usize,
 ) -> Step
     requires { ⌜ (from ≤ length (now s)) × (k < 2048) ⌝ }
-    ensures { λ r. ⌜ Told (now (s .entry)) (r .fault) (r .at) (RangeShown before (r .used) k (now (table .entry)) (now (table .exit))) (read (now (s .entry)) (range outputs «of_q» before) from) ⌝ }
+    ensures { λ r. ⌜ Told (now (s .entry)) (r .fault) (r .at) (RangeShown before (r .used) k (now (table .entry)) (now (table .exit))) (read (now (s .entry)) (range today version outputs «of_q» before) from) ⌝ }
 {
     let n = fields::name_field(s, from, outputs, of_q, before);
     if n.fault != 0 {
         return halt(n.fault, n.at);
     }
-    let u = fields::bound(s, n.at, 1);
+    let u = fields::least(s, n.at);
     if u.fault != 0 {
         return halt(u.fault, u.at);
     }
-    let v = fields::bound(s, u.at, u.value);
+    let v = fields::most(s, u.at, version, u.value);
     if v.fault != 0 {
         return halt(v.fault, v.at);
     }
@@ -73,6 +75,7 @@ fn range(
 fn ranges(
     s: &[u8],
     from: usize,
+    version: u64,
     outputs: u64,
     of_q: bool,
     before: u64,
@@ -81,13 +84,13 @@ fn ranges(
     base: usize,
 ) -> Step
     requires { ⌜ (from ≤ length (now s)) × (base + count ≤ 2048) ⌝ }
-    ensures { λ r. ⌜ Told (now (s .entry)) (r .fault) (r .at) (RangesShown before (r .used) base (now (table .entry)) (now (table .exit))) (read (now (s .entry)) (ranges outputs «of_q» before count) from) ⌝ }
+    ensures { λ r. ⌜ Told (now (s .entry)) (r .fault) (r .at) (RangesShown before (r .used) base (now (table .entry)) (now (table .exit))) (read (now (s .entry)) (ranges today version outputs «of_q» before count) from) ⌝ }
 {
     let mut at = from;
     let mut used = before;
     let mut i = 0usize;
     while i < count {
-        let r = range(s, at, outputs, of_q, used, table, base + i);
+        let r = range(s, at, version, outputs, of_q, used, table, base + i);
         if r.fault != 0 {
             return r;
         }
@@ -114,6 +117,7 @@ fn fragment_word(join: u64, count: u64) -> u16
 fn fragment<'a>(
     s: &[u8],
     from: usize,
+    version: u64,
     outputs: u64,
     of_q: bool,
     before: u64,
@@ -122,13 +126,13 @@ fn fragment<'a>(
     k: usize,
 ) -> Step
     requires { ⌜ (from ≤ length (now s)) × (k < 256) ⌝ }
-    ensures { λ r. ⌜ Told (now (s .entry)) (r .fault) (r .at) (FragmentShown before (r .used) k (now (words .entry)) (now (words .exit)) (now (table .entry)) (now (table .exit))) (read (now (s .entry)) (fragment outputs «of_q» before) from) ⌝ }
+    ensures { λ r. ⌜ Told (now (s .entry)) (r .fault) (r .at) (FragmentShown before (r .used) k (now (words .entry)) (now (words .exit)) (now (table .entry)) (now (table .exit))) (read (now (s .entry)) (fragment today version outputs «of_q» before) from) ⌝ }
 {
-    let j = fields::between(s, from, 0, 1);
+    let j = fields::join(s, from, version);
     if j.fault != 0 {
         return halt(j.fault, j.at);
     }
-    let n = fields::between(s, j.at, 1, 8);
+    let n = fields::count(s, j.at, fields::MOST_RANGES);
     if n.fault != 0 {
         return halt(n.fault, n.at);
     }
@@ -136,6 +140,7 @@ fn fragment<'a>(
     ranges(
         s,
         n.at,
+        version,
         outputs,
         of_q,
         before,
@@ -149,6 +154,7 @@ fn fragment<'a>(
 fn fragments<'a>(
     s: &[u8],
     from: usize,
+    version: u64,
     outputs: u64,
     of_q: bool,
     before: u64,
@@ -158,13 +164,13 @@ fn fragments<'a>(
     first: usize,
 ) -> Step
     requires { ⌜ (from ≤ length (now s)) × (first + count ≤ 256) ⌝ }
-    ensures { λ r. ⌜ Told (now (s .entry)) (r .fault) (r .at) (FragmentsShown before (r .used) first (now (words .entry)) (now (words .exit)) (now (table .entry)) (now (table .exit))) (read (now (s .entry)) (fragments outputs «of_q» before count) from) ⌝ }
+    ensures { λ r. ⌜ Told (now (s .entry)) (r .fault) (r .at) (FragmentsShown before (r .used) first (now (words .entry)) (now (words .exit)) (now (table .entry)) (now (table .exit))) (read (now (s .entry)) (fragments today version outputs «of_q» before count) from) ⌝ }
 {
     let mut at = from;
     let mut used = before;
     let mut i = 0usize;
     while i < count {
-        let r = fragment(s, at, outputs, of_q, used, words, table, first + i);
+        let r = fragment(s, at, version, outputs, of_q, used, words, table, first + i);
         if r.fault != 0 {
             return r;
         }
@@ -225,15 +231,15 @@ fn no_heading(f: fields::Found) -> Heading
     }
 }
 
-fn header(s: &[u8], from: usize, outputs: u64) -> Heading
+fn header(s: &[u8], from: usize, version: u64, outputs: u64) -> Heading
     requires { ⌜ from ≤ length (now s) ⌝ }
-    ensures { λ r. ⌜ Told (now (s .entry)) (r .fault) (r .at) (HeaderShown (r .kind) (r .p) (r .q) (r .trigger) (r .used) (r .word)) (read (now (s .entry)) (header outputs) from) ⌝ }
+    ensures { λ r. ⌜ Told (now (s .entry)) (r .fault) (r .at) (HeaderShown (r .kind) (r .p) (r .q) (r .trigger) (r .used) (r .word)) (read (now (s .entry)) (header today version outputs) from) ⌝ }
 {
-    let k = fields::between(s, from, 0, 2);
+    let k = fields::kind(s, from, version);
     if k.fault != 0 {
         return no_heading(k);
     }
-    let p = fields::between(s, k.at, 1, 8);
+    let p = fields::count(s, k.at, fields::MOST_FRAGMENTS);
     if p.fault != 0 {
         return no_heading(p);
     }
@@ -285,6 +291,7 @@ fn trigger_fragment<'a>(
 fn rule<'a>(
     s: &[u8],
     from: usize,
+    version: u64,
     outputs: u64,
     heads: &'a mut [u64; 16],
     words: &'a mut [u16; 256],
@@ -292,27 +299,50 @@ fn rule<'a>(
     k: usize,
 ) -> Step
     requires { ⌜ (from ≤ length (now s)) × (k < 16) ⌝ }
-    ensures { λ r. ⌜ Told (now (s .entry)) (r .fault) (r .at) (RuleShown k (now (heads .entry)) (now (heads .exit)) (now (words .entry)) (now (words .exit)) (now (table .entry)) (now (table .exit))) (read (now (s .entry)) (rule outputs) from) ⌝ }
+    ensures { λ r. ⌜ Told (now (s .entry)) (r .fault) (r .at) (RuleShown k (now (heads .entry)) (now (heads .exit)) (now (words .entry)) (now (words .exit)) (now (table .entry)) (now (table .exit))) (read (now (s .entry)) (rule today version outputs) from) ⌝ }
 {
-    let h = header(s, from, outputs);
+    let h = header(s, from, version, outputs);
     if h.fault != 0 {
         return halt(h.fault, h.at);
     }
     heads[k] = h.word;
     let m = h.p as usize;
     let n = h.q as usize;
-    let p = fragments(s, h.at, outputs, false, h.used, m, words, table, 16 * k);
+    let p = fragments(
+        s,
+        h.at,
+        version,
+        outputs,
+        false,
+        h.used,
+        m,
+        words,
+        table,
+        16 * k,
+    );
     if p.fault != 0 {
         return p;
     }
     trigger_fragment(h.kind, h.trigger, words, table, 16 * k + m);
-    fragments(s, p.at, outputs, true, p.used, n, words, table, 16 * k + m)
+    fragments(
+        s,
+        p.at,
+        version,
+        outputs,
+        true,
+        p.used,
+        n,
+        words,
+        table,
+        16 * k + m,
+    )
 }
 
 // The rules.
 pub fn rules<'a>(
     s: &[u8],
     from: usize,
+    version: u64,
     outputs: u64,
     count: usize,
     heads: &'a mut [u64; 16],
@@ -320,12 +350,12 @@ pub fn rules<'a>(
     table: &'a mut [u64; 2048],
 ) -> Step
     requires { ⌜ (from ≤ length (now s)) × (count ≤ 16) ⌝ }
-    ensures { λ r. ⌜ Told (now (s .entry)) (r .fault) (r .at) (RulesShown (now (heads .entry)) (now (heads .exit)) (now (words .entry)) (now (words .exit)) (now (table .entry)) (now (table .exit))) (read (now (s .entry)) (rules outputs count) from) ⌝ }
+    ensures { λ r. ⌜ Told (now (s .entry)) (r .fault) (r .at) (RulesShown (now (heads .entry)) (now (heads .exit)) (now (words .entry)) (now (words .exit)) (now (table .entry)) (now (table .exit))) (read (now (s .entry)) (rules today version outputs count) from) ⌝ }
 {
     let mut at = from;
     let mut i = 0usize;
     while i < count {
-        let r = rule(s, at, outputs, heads, words, table, i);
+        let r = rule(s, at, version, outputs, heads, words, table, i);
         if r.fault != 0 {
             return r;
         }

@@ -26,6 +26,7 @@ readValues (refused number place) = refusedValues number place
 
 abbrev pub pagesOf : Sheet → Pages
 pagesOf S = record {
+  version = S .version;
   outputs = S .outputs;
   count = length (S .rules);
   heads = headTable (S .rules);

@@ -2,6 +2,7 @@
 // A fault is a number of document 01; 0 is none.
 ghost use mathlib.Core.Path.{_≡_};
 ghost use Rattle.layout.specs.Form.{read};
+ghost use Rattle.layout.specs.Terms.{today};
 ghost use Rattle.layout.specs.Reading.{sheet};
 ghost use Rattle.fields.specs.Told.{Told};
 ghost use Rattle.sheet.specs.Shown.{SheetShown};
@@ -11,6 +12,7 @@ ghost use Rattle.sheet.specs.Answers.{Reads};
 struct Opening {
     fault: u8,
     at: usize,
+    version: u16,
     outputs: u64,
     count: u8,
 }
@@ -21,6 +23,7 @@ fn no_opening(fault: u8, at: usize) -> Opening
     Opening {
         fault: fault,
         at: at,
+        version: 0,
         outputs: 0,
         count: 0,
     }
@@ -32,13 +35,13 @@ fn sheet<'a>(
     words: &'a mut [u16; 256],
     table: &'a mut [u64; 2048],
 ) -> Opening
-    ensures { λ r. ⌜ Told (now (s .entry)) (r .fault) (r .at) (SheetShown (r .outputs) (r .count) (now (heads .entry)) (now (heads .exit)) (now (words .entry)) (now (words .exit)) (now (table .entry)) (now (table .exit))) (read (now (s .entry)) sheet 0) ⌝ }
+    ensures { λ r. ⌜ Told (now (s .entry)) (r .fault) (r .at) (SheetShown (r .version) (r .outputs) (r .count) (now (heads .entry)) (now (heads .exit)) (now (words .entry)) (now (words .exit)) (now (table .entry)) (now (table .exit))) (read (now (s .entry)) (sheet today) 0) ⌝ }
 {
     let m = fields::exactly(s, 0, 3, 0x424F4C, 2);
     if m.fault != 0 {
         return no_opening(m.fault, m.at);
     }
-    let v = fields::exactly(s, m.at, 2, 1, 3);
+    let v = fields::version(s, m.at);
     if v.fault != 0 {
         return no_opening(v.fault, v.at);
     }
@@ -46,17 +49,27 @@ fn sheet<'a>(
     if o.fault != 0 {
         return no_opening(o.fault, o.at);
     }
-    let n = fields::between(s, o.at, 1, 16);
+    let n = fields::rule_count(s, o.at);
     if n.fault != 0 {
         return no_opening(n.fault, n.at);
     }
-    let r = parts::rules(s, n.at, o.value, n.value as usize, heads, words, table);
+    let r = parts::rules(
+        s,
+        n.at,
+        v.value,
+        o.value,
+        n.value as usize,
+        heads,
+        words,
+        table,
+    );
     if r.fault != 0 {
         return no_opening(r.fault, r.at);
     }
     Opening {
         fault: 0,
         at: r.at,
+        version: v.value as u16,
         outputs: o.value,
         count: n.value as u8,
     }
@@ -64,6 +77,7 @@ fn sheet<'a>(
 
 // What a sheet says, in file order (specs/Pages): heads has each rule's eight bytes, fragments each fragment's join and count, ranges each range's name, u and v.
 pub struct Pages {
+    pub version: u16,
     pub outputs: u64,
     pub count: u8,
     pub heads: [u64; 16],
@@ -91,6 +105,7 @@ pub fn read(s: &[u8]) -> Reading
     let mut ranges = [0u64; 2048];
     let r = sheet(s, &mut heads, &mut fragments, &mut ranges);
     let pages = Pages {
+        version: r.version,
         outputs: r.outputs,
         count: r.count,
         heads: heads,

@@ -5,20 +5,21 @@ use Prim.Native.Nat.{ℕ, _≤_}
 use native.Mathlib.Omega.{arith}
 use lib.Dec.{ltb}
 use Rattle.names.specs.Names.{member}
-use Rattle.layout.specs.Reading.{inOrder, nameFault}
-use Rattle.layout.proofs.Values.{name-faultless}
+use Rattle.layout.specs.Terms.{today}
+use Rattle.layout.specs.Reading.{nameFault}
+use Rattle.layout.proofs.Values.{today-covered, name-faultless}
 use Rattle.fields.proofs.Telling.{tested, tested-at, untested, stops-at, some, heard-number}
 use borrow.Author.Needs.{needs}
 use Rattle.fields.proofs.name_field.Statement.{statement}
 use Rattle.fields.proofs.name_field.Tie as tie
 
 -- what the code found is the name's fault
-found : (outputs : ℕ) (ofQ : Bool) (used n : ℕ) {again wrong : Bool} {k : ℕ} → again ≡ member used n → wrong ≡ (ofQ && not (member outputs n)) → k ≡ inOrder (ltb 63 n) again wrong
-    → nameFault outputs ofQ used n ≡ k
+found : (outputs : ℕ) (ofQ : Bool) (used n : ℕ) {again wrong : Bool} {k : ℕ} → again ≡ member used n → wrong ≡ (ofQ && not (member outputs n)) → k ≡ today .inOrder (ltb 63 n) again wrong
+    → nameFault today outputs ofQ used n ≡ k
 found outputs ofQ used n ea ew ek = sym (ek ∙ rw (ea, ew))
 
-small : (outputs : ℕ) (ofQ : Bool) (used n : ℕ) {k : ℕ} → nameFault outputs ofQ used n ≡ k → k ≡ 0 → (0 ≤ n) × (n ≤ 63)
-small outputs ofQ used n e z = (omega arith, name-faultless outputs ofQ used n (e ∙ z) .0)
+small : (outputs : ℕ) (ofQ : Bool) (used n : ℕ) {k : ℕ} → nameFault today outputs ofQ used n ≡ k → k ≡ 0 → (0 ≤ n) × (n ≤ 63)
+small outputs ofQ used n e z = (omega arith, name-faultless today-covered outputs ofQ used n (e ∙ z) .0)
 
 field-requires : tie.Need-field-requires
 field-requires c κs = search needs

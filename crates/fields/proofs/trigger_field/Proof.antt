@@ -5,7 +5,8 @@ use Prim.Native.Nat.{ℕ, _≤_}
 use native.Mathlib.Omega.{arith}
 use lib.Dec.{ltb}
 use Rattle.names.specs.Names.{member}
-use Rattle.layout.specs.Reading.{inOrder, triggerFault}
+use Rattle.layout.specs.Terms.{today}
+use Rattle.layout.specs.Reading.{triggerFault}
 use Rattle.layout.proofs.Values.{trigger-faultless}
 use Rattle.fields.proofs.Telling.{tested, tested-at, untested, stops-at, some, heard-number}
 use borrow.Author.Needs.{needs}
@@ -13,7 +14,7 @@ use Rattle.fields.proofs.trigger_field.Statement.{statement}
 use Rattle.fields.proofs.trigger_field.Tie as tie
 
 -- what the code found is the trigger's fault
-found : (outputs i : ℕ) {wrong : Bool} {k : ℕ} → wrong ≡ member outputs i → k ≡ inOrder (ltb 63 i) false wrong → triggerFault outputs i ≡ k
+found : (outputs i : ℕ) {wrong : Bool} {k : ℕ} → wrong ≡ member outputs i → k ≡ today .inOrder (ltb 63 i) false wrong → triggerFault outputs i ≡ k
 found outputs i ew ek = sym (ek ∙ rw ew)
 
 small : (outputs i : ℕ) {k : ℕ} → triggerFault outputs i ≡ k → k ≡ 0 → (0 ≤ i) × (i ≤ 63)

@@ -7,6 +7,7 @@ use native.Mathlib.Omega.{arith}
 use Rattle.pattern.specs.Meaning.{Fragment, fragmentNames}
 use Rattle.names.specs.Names.{insertAll}
 use Rattle.layout.specs.Form.{read}
+use Rattle.layout.specs.Terms.{today}
 use Rattle.layout.specs.Reading.{fragment, fragments}
 use Rattle.layout.specs.Pages.{putFragment, putRanges}
 use Rattle.fields.specs.Told.{Told, right, wrong}
@@ -16,13 +17,13 @@ use Rattle.parts.proofs.Loops.{SoFar, begin, more, fail, finish, fill-s
 use Rattle.parts.proofs.fragments.Statement.{statement}
 use Rattle.parts.proofs.fragments.Tie as tie
 
-module _ (s : List ℕ) (from outputs : ℕ) (ofQ : Bool) (before count first : ℕ) (words₀ table₀ : List ℕ) where
+module _ (s : List ℕ) (from version outputs : ℕ) (ofQ : Bool) (before count first : ℕ) (words₀ table₀ : List ℕ) where
   abbrev Held : List ℕ → List ℕ → ℕ → ℕ → ℕ → Type 0
   Held words table at used i =
-      (xs : List Fragment) × SoFar s (fragment outputs ofQ) fragmentNames before count from used i at xs × Stored first words₀ words table₀ table xs
+      (xs : List Fragment) × SoFar s (fragment today version outputs ofQ) fragmentNames before count from used i at xs × Stored first words₀ words table₀ table xs
 
   again : {words table words′ table′ : List ℕ} {at used i at′ fault used′ : ℕ} → Held words table at used i → i < count
-      → Told s fault at′ (FragmentShown used used′ (first + i) words words′ table table′) (read s (fragment outputs ofQ used) at) → fault ≡ 0
+      → Told s fault at′ (FragmentShown used used′ (first + i) words words′ table table′) (read s (fragment today version outputs ofQ used) at) → fault ≡ 0
       → Held words′ table′ at′ used′ (i + 1)
   again {i} (xs, f, e) h (right x got-x z l shown) _ = (
     xs ++ (x ∷ []),
@@ -35,11 +36,11 @@ module _ (s : List ℕ) (from outputs : ℕ) (ofQ : Bool) (before count first : 
   again held h (wrong e pos) z = absurd (omega (arith, pos, z))
 
 abbrev Inv-loop : tie.InvT-loop
-Inv-loop s from outputs of-q before count words₀ table₀ first at₀ used₀ i₀ words table at used i =
-    Held s from outputs of-q before count first words₀ table₀ words table at used i
+Inv-loop s from version outputs of-q before count words₀ table₀ first at₀ used₀ i₀ words table at used i =
+    Held s from version outputs of-q before count first words₀ table₀ words table at used i
 
 abbrev μ-loop : tie.MeasureT-loop
-μ-loop s from outputs of-q before count words₀ table₀ first at₀ used₀ i₀ words table at used i = count - i
+μ-loop s from version outputs of-q before count words₀ table₀ first at₀ used₀ i₀ words table at used i = count - i
 
 loop-holds : tie.Need-loop-holds Inv-loop μ-loop
 loop-holds c = ([], begin _ _ _ _ _ _ (c .before .pre .0), record { fragments = refl; ranges = refl })
@@ -61,7 +62,7 @@ loop-less : tie.Need-loop-less Inv-loop μ-loop
 loop-less c = omega arith
 
 loop-again : tie.Need-loop-again Inv-loop μ-loop
-loop-again c = again _ _ _ _ _ _ _ _ _ (c .before .before .before .before .before .before .loop .inv) (c .before .before .before .before .before .loop-test .taken) (c .before .before .fragment .ensures) (c .if1 .left)
+loop-again c = again _ _ _ _ _ _ _ _ _ _ (c .before .before .before .before .before .before .loop .inv) (c .before .before .before .before .before .loop-test .taken) (c .before .before .fragment .ensures) (c .if1 .left)
 
 returns-2 : tie.Need-returns-2 Inv-loop μ-loop
 unfolding fragments

@@ -7,6 +7,7 @@ use native.Mathlib.Nat.{zero-add}
 use lib.ListN.{length}
 use Rattle.pattern.specs.Meaning.{Rule}
 use Rattle.layout.specs.Form.{read}
+use Rattle.layout.specs.Terms.{today}
 use Rattle.layout.specs.Reading.{rule, rules}
 use Rattle.layout.specs.Pages.{fill, putRule, putRuleFragments, putRuleRanges}
 use Rattle.fields.specs.Told.{Told, right, wrong}
@@ -16,15 +17,15 @@ use Rattle.parts.proofs.Loops.{SoFar, begin, more, fail, finish, fill-s
 use Rattle.parts.proofs.rules.Statement.{statement}
 use Rattle.parts.proofs.rules.Tie as tie
 
-module _ (s : List ℕ) (from outputs count : ℕ) (heads₀ words₀ table₀ : List ℕ) where
+module _ (s : List ℕ) (from version outputs count : ℕ) (heads₀ words₀ table₀ : List ℕ) where
   abbrev Held : List ℕ → List ℕ → List ℕ → ℕ → ℕ → Type 0
-  Held heads words table at i = (xs : List Rule) × SoFar s (λ _. rule outputs) (λ _. []) 0 count from 0 i at xs × RulesShown heads₀ heads words₀ words table₀ table xs
+  Held heads words table at i = (xs : List Rule) × SoFar s (λ _. rule today version outputs) (λ _. []) 0 count from 0 i at xs × RulesShown heads₀ heads words₀ words table₀ table xs
 
   at-end : {A : Type 0} (put : List ℕ → ℕ → A → List ℕ) (t : List ℕ) (xs : List A) (x : A) {i : ℕ} → length xs ≡ i → put (fill put t 0 xs) i x ≡ fill put t 0 (xs ++ (x ∷ []))
   at-end put t xs x e = rw (← e) (sym (fill-snoc put t 0 xs x ∙ rw zero-add))
 
   again : {heads words table heads′ words′ table′ : List ℕ} {at i at′ fault : ℕ} → Held heads words table at i → i < count
-      → Told s fault at′ (RuleShown i heads heads′ words words′ table table′) (read s (rule outputs) at) → fault ≡ 0 → Held heads′ words′ table′ at′ (i + 1)
+      → Told s fault at′ (RuleShown i heads heads′ words words′ table table′) (read s (rule today version outputs) at) → fault ≡ 0 → Held heads′ words′ table′ at′ (i + 1)
   again (xs, f, e) h (right x got-x z l shown) _ = (
     xs ++ (x ∷ []),
     more _ _ _ _ _ _ f h got-x l refl,
@@ -37,10 +38,10 @@ module _ (s : List ℕ) (from outputs count : ℕ) (heads₀ words₀ table₀ :
   again held h (wrong e pos) z = absurd (omega (arith, pos, z))
 
 abbrev Inv-loop : tie.InvT-loop
-Inv-loop s from outputs count heads₀ words₀ table₀ at₀ i₀ heads words table at i = Held s from outputs count heads₀ words₀ table₀ heads words table at i
+Inv-loop s from version outputs count heads₀ words₀ table₀ at₀ i₀ heads words table at i = Held s from version outputs count heads₀ words₀ table₀ heads words table at i
 
 abbrev μ-loop : tie.MeasureT-loop
-μ-loop s from outputs count heads₀ words₀ table₀ at₀ i₀ heads words table at i = count - i
+μ-loop s from version outputs count heads₀ words₀ table₀ at₀ i₀ heads words table at i = count - i
 
 loop-holds : tie.Need-loop-holds Inv-loop μ-loop
 loop-holds c = ([], begin _ _ _ _ _ _ (c .before .pre .0), record { heads′ = refl; fragments = refl; ranges = refl })
@@ -59,7 +60,7 @@ loop-less : tie.Need-loop-less Inv-loop μ-loop
 loop-less c = omega arith
 
 loop-again : tie.Need-loop-again Inv-loop μ-loop
-loop-again c = again _ _ _ _ _ _ _ (c .before .before .before .before .before .before .before .loop .inv) (c .before .before .before .before .before .before .loop-test .taken) (c .before .before .rule .ensures) (c .if1 .left)
+loop-again c = again _ _ _ _ _ _ _ _ (c .before .before .before .before .before .before .before .loop .inv) (c .before .before .before .before .before .before .loop-test .taken) (c .before .before .rule .ensures) (c .if1 .left)
 
 returns-2 : tie.Need-returns-2 Inv-loop μ-loop
 unfolding rules

@@ -5,9 +5,10 @@ use Prim.Native.Nat.{ℕ, _≤_, _<_}
 use native.Mathlib.Omega.{arith}
 use lib.ListN.{length, replicate}
 use borrow.Author.Tests.{lt-ltb, le-ltb}
+use Rattle.layout.specs.Terms.{today}
 use Rattle.layout.specs.Layout.{Sheet}
 use Rattle.layout.specs.Form.{got, stopped, read}
-use Rattle.layout.specs.Reading.{sheet, Outcome, accepted, refused, readSheet}
+use Rattle.layout.specs.Reading.{sheet, Outcome, accepted, refused, readSheetOn, readSheet}
 use Rattle.layout.specs.Pages.{headTable, fragmentTable, rangeTable}
 use Rattle.sheet.specs.Shown.{SheetShown}
 use Rattle.sheet.specs.Answers.{readValues, pagesOf, Reads}
@@ -25,16 +26,16 @@ same-sheet : {S T : Sheet} {o : Outcome} → o ≡ accepted S → o ≡ accepted
 same-sheet e f = cc (e, f)
 
 module _ (s : List ℕ) where
-  read-stop : {k place : ℕ} → read s sheet 0 ≡ stopped k place → readSheet s ≡ refused k place
-  unfolding readSheet
+  read-stop : {k place : ℕ} → read s (sheet today) 0 ≡ stopped k place → readSheet s ≡ refused k place
+  unfolding readSheetOn
   read-stop e = rw e
 
-  read-more : {S : Sheet} {at : ℕ} → read s sheet 0 ≡ got S at → at < length s → readSheet s ≡ refused 10 at
-  unfolding readSheet
+  read-more : {S : Sheet} {at : ℕ} → read s (sheet today) 0 ≡ got S at → at < length s → readSheet s ≡ refused 10 at
+  unfolding readSheetOn
   read-more {at} e h = rw (e, lt-ltb at (length s) h)
 
-  read-all : {S : Sheet} {at : ℕ} → read s sheet 0 ≡ got S at → length s ≤ at → readSheet s ≡ accepted S
-  unfolding readSheet
+  read-all : {S : Sheet} {at : ℕ} → read s (sheet today) 0 ≡ got S at → length s ≤ at → readSheet s ≡ accepted S
+  unfolding readSheetOn
   read-all {at} e h = rw (e, le-ltb at (length s) h)
 
   refuses : (pages : Pages) {k place : ℕ} → readSheet s ≡ refused k place → Reads s (record { answer = Refused k place; pages = pages })
@@ -43,11 +44,11 @@ module _ (s : List ℕ) where
   accepts : (pages : Pages) {S : Sheet} → readSheet s ≡ accepted S → pages ≡ pagesOf S → Reads s (record { answer = Accepted; pages = pages })
   accepts pages e p = record { answers = sym (ap readValues e); keeps = λ T f. p ∙ ap pagesOf (same-sheet e f) }
 
-pages-of : {outputs count : ℕ} {heads words table : List ℕ} (S : Sheet)
-    → SheetShown outputs count (replicate 16 0) heads (replicate 256 0) words (replicate 2048 0) table S
-    → _≡_ {A = Pages} (record { outputs = outputs; count = count; heads = heads; fragments = words; ranges = table }) (pagesOf S)
+pages-of : {version outputs count : ℕ} {heads words table : List ℕ} (S : Sheet)
+    → SheetShown version outputs count (replicate 16 0) heads (replicate 256 0) words (replicate 2048 0) table S
+    → _≡_ {A = Pages} (record { version = version; outputs = outputs; count = count; heads = heads; fragments = words; ranges = table }) (pagesOf S)
 unfolding headTable fragmentTable rangeTable
-pages-of S w = rw (w .outputs′, w .count′, w .tables .heads′, w .tables .fragments, w .tables .ranges)
+pages-of S w = rw (w .version′, w .outputs′, w .count′, w .tables .heads′, w .tables .fragments, w .tables .ranges)
 
 sheet-requires : tie.Need-sheet-requires
 sheet-requires c κs = search needs
