@@ -6,7 +6,7 @@ use Prim.Native.Nat.{ℕ, _+_, _<_, _≤_}
 use lib.ListN.{length, getD}
 use borrow.Author.Tests.{le-leb, lt-leb, le-ltb, lt-ltb, eq-eqb, ne-eqb}
 use Rattle.tables.specs.Cells.{maskIn}
-use Rattle.words.specs.Words.{Held, heldBy, lastWord, rulesIn}
+use Rattle.words.specs.Words.{memoryLength, statusAt, Held, heldBy, lastWord, rulesIn}
 use Rattle.rules.specs.Pass.{Pass, Passes}
 use Rattle.answers.specs.Cases.{valuesOf}
 use Rattle.answers.specs.Observe.{Observed, judgedOf, refusedOf, takenOf, lookedOf, observeOf}
@@ -20,10 +20,10 @@ use Rattle.answers.specs.declared.Answer.the-variants.{Broken, Refused}
 -- ---- an observation whose name is right, of a monitor that has not stopped
 
 pub record Takes (before : List ℕ) (o : Observed) (a : Answer) (after : List ℕ) : Type 0 where
-  long : length before ≡ 34 → length after ≡ 34
-  leaves : length before ≡ 34 → record { monitor = heldBy after; answer = a } ≡ o
+  long : length before ≡ memoryLength → length after ≡ memoryLength
+  leaves : length before ≡ memoryLength → record { monitor = heldBy after; answer = a } ≡ o
   unchanged : valuesOf a .answer ≡ 3 → after ≡ before
-  spare : length before ≡ 34 → (valuesOf a .answer ≡ 3 → ⊥) → getD after 33 0 ≡ lastWord (heldBy after)
+  spare : length before ≡ memoryLength → (valuesOf a .answer ≡ 3 → ⊥) → getD after statusAt 0 ≡ lastWord (heldBy after)
 
 -- a refusal leaves all
 refuses : (before : List ℕ) (o : Observed) (n : ℕ) → o ≡ record { monitor = heldBy before; answer = Refused n } → Takes before o (Refused n) before

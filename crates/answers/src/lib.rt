@@ -4,6 +4,7 @@ ghost use Rattle.words.specs.Words.{rulesIn};
 ghost use Rattle.answers.specs.Observe.{judgedOf};
 ghost use Rattle.answers.specs.Leaving.{Judges};
 use rules::Masks;
+use words::Memory;
 
 // "an event or a clock reading (a time alone)"
 pub enum Observation {
@@ -20,7 +21,7 @@ pub enum Answer {
 }
 
 // "If rules break at it, the book stops: the answer is broken, k and a 16-bit mask of the rules broken at k." "Otherwise the answer is open with the mask of open rules, or whole if that mask is 0."
-pub fn judged(m: &mut [u64; 34], p: Masks, k: u32, time: u32) -> Answer
+pub fn judged(m: &mut Memory, p: Masks, k: u32, time: u32) -> Answer
     ensures { λ r. ⌜ Judges (now (m .entry)) (judgedOf (record { rules = rulesIn (now (m .entry)); broken = p .broken; opens = p .opens; dues = p .dues }) k time) r (now (m .exit)) ⌝ }
 {
     let broken = p.broken;

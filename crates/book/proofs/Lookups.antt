@@ -17,7 +17,7 @@ use Rattle.layout.specs.Layout.{Sheet, timeOf, WellFormedSheet}
 use Rattle.layout.specs.Pages.{fragmentWord, rangeWord, headTable, fragmentTable, rangeTable, noRange, noRule, ruleAt, rangeAt}
 use Rattle.layout.proofs.PageLaws.{head-at, fragment-at, range-at, round-formed, round-few, each-at}
 use Rattle.tables.specs.Words.{roundIn, cap, bitIn, countIn}
-use Rattle.tables.specs.Cells.{limitAt, cellAt, maskIn, limitIn, Cell, HoldsRules}
+use Rattle.tables.specs.Cells.{limitAt, cellAt, tableLength, maskIn, limitIn, Cell, HoldsRules}
 use Rattle.cells.specs.Heads.{LooksHead}
 use Rattle.cells.proofs.HeadLaws.{head-round, looks-head}
 use Rattle.cells.proofs.CellLaws.{rule-cell}
@@ -127,13 +127,13 @@ module _ (S : Sheet) (formed : WellFormedSheet S) where
 
   -- the masks, before the rules are stored
   abbrev masks : List ℕ
-  masks = stored (λ m. maskOf sets m (cap 16 (length (S .rules)))) 64 (replicate 1104 0)
+  masks = stored (λ m. maskOf sets m (cap 16 (length (S .rules)))) 64 (replicate tableLength 0)
 
   abbrev table : List ℕ
   table = tableOf (headTable (S .rules)) (fragmentTable (S .rules)) (rangeTable (S .rules)) (length (S .rules))
 
-  size : length masks ≡ 1104
-  size = stored-length (λ m. maskOf sets m (cap 16 (length (S .rules)))) 64 (replicate 1104 0) ∙ length-replicate {A = ℕ} 1104 0
+  size : length masks ≡ tableLength
+  size = stored-length (λ m. maskOf sets m (cap 16 (length (S .rules)))) 64 (replicate tableLength 0) ∙ length-replicate {A = ℕ} tableLength 0
 
   capped : cap 16 (length (S .rules)) ≤ 16
   capped = cap-small 16 (length (S .rules))
@@ -170,7 +170,7 @@ module _ (S : Sheet) (formed : WellFormedSheet S) where
       let few : maskOf sets n (cap 16 (length (S .rules))) < 2 ^ 16 = mask-below sets n (cap 16 (length (S .rules))) capped in
       ap (λ (w : ℕ). member (maskIn w) r)
       (mask-stays (headTable (S .rules)) (fragmentTable (S .rules)) (rangeTable (S .rules)) (cap 16 (length (S .rules))) capped masks size n l
-      ∙ stored-at (λ m. maskOf sets m (cap 16 (length (S .rules)))) 64 (replicate 1104 0) n l (omega arith))
+      ∙ stored-at (λ m. maskOf sets m (cap 16 (length (S .rules)))) 64 (replicate tableLength 0) n l (omega arith))
       ∙ ap (λ (w : ℕ). member w r) (omega (arith, few))
       ∙ member-mask sets n (cap 16 (length (S .rules))) r
       ∙ ap (λ (k : ℕ). ltb r k && member (getD sets r 0) n) all

@@ -13,6 +13,7 @@ use Rattle.names.specs.Names.{member, insert, withName}
 use Rattle.names.proofs.Sets.{insert-below}
 use Rattle.layout.proofs.Values.{with-name}
 use Rattle.tables.specs.Words.{bitIn}
+use Rattle.tables.specs.Cells.{cellAt}
 use Rattle.cells.specs.Making.{cellWith}
 use Rattle.cells.proofs.CellBounds.{either}
 use Rattle.book.specs.Tables.{stored, inTurn, namesFrom, unionFrom, maskOf, putCell}
@@ -25,7 +26,7 @@ pub turn-more : (put : List ℕ → ℕ → List ℕ) (t : List ℕ) (i : ℕ) {
 turn-more put t i e e′ = e′ ∙ rw (add-one, e)
 
 pub cell-more : (ranges : List ℕ) (r k shared : ℕ) (t : List ℕ) (i : ℕ) {table : List ℕ} {bit cell : ℕ} → table ≡ inTurn (putCell ranges r k shared) i t
-    → bit ≡ bitIn (getD ranges (8 * k + i) 0) → cell ≡ cellWith shared (getD ranges (8 * k + i) 0) i → set table (80 + 64 * r + bit) cell ≡ inTurn (putCell ranges r k shared) (i + 1) t
+    → bit ≡ bitIn (getD ranges (8 * k + i) 0) → cell ≡ cellWith shared (getD ranges (8 * k + i) 0) i → set table (cellAt r bit) cell ≡ inTurn (putCell ranges r k shared) (i + 1) t
 cell-more ranges r k shared t i e eb ec = turn-more (putCell ranges r k shared) t i e (rw (eb, ec))
 
 pub stored-more : (f : ℕ → ℕ) (t : List ℕ) (i : ℕ) {table : List ℕ} {x : ℕ} → table ≡ stored f i t → x ≡ f i → set table i x ≡ stored f (i + 1) t

@@ -8,7 +8,7 @@ use native.Mathlib.Omega.{arith}
 use lib.ListN.{length, getD, set, length-set}
 use lib.Seq.{getD-set-same, getD-set-other}
 use Rattle.tables.specs.Words.{timeIn, roundIn, countIn, bitIn}
-use Rattle.tables.specs.Cells.{limitAt, cellAt}
+use Rattle.tables.specs.Cells.{limitAt, cellAt, tableLength}
 use Rattle.cells.specs.Making.{sharedCell, cellWith}
 use Rattle.book.specs.Tables.{inTurn, putCell, putFragment, putRule}
 use Rattle.book.proofs.Turns.{SameLength, Leaves, turn-length, turn-leaves, turn-at}
@@ -66,7 +66,7 @@ module _ (heads fragments ranges : List ℕ) where
 
   -- ---- what is put for a rule, in its own places
 
-  limit-put : (r : ℕ) → r < 16 → (t : List ℕ) → length t ≡ 1104 → getD (putRule heads fragments ranges t r) (limitAt r) 0 ≡ timeIn (headAt r)
+  limit-put : (r : ℕ) → r < 16 → (t : List ℕ) → length t ≡ tableLength → getD (putRule heads fragments ranges t r) (limitAt r) 0 ≡ timeIn (headAt r)
   unfolding putRule
   limit-put r few t size =
       turn-leaves (putFragment fragments ranges (headAt r) r) (limitAt r) (roundIn (headAt r))
@@ -85,24 +85,24 @@ module _ (heads fragments ranges : List ℕ) where
     abbrev cell : ℕ
     cell = cellWith (sharedCell (headAt r) (wordAt r n) n) (boundsAt r n i) i
 
-    fragment-put : (t : List ℕ) → length t ≡ 1104 → getD (putFragment fragments ranges (headAt r) r t n) place 0 ≡ cell
+    fragment-put : (t : List ℕ) → length t ≡ tableLength → getD (putFragment fragments ranges (headAt r) r t n) place 0 ≡ cell
     unfolding putFragment
     fragment-put =
         let shared : ℕ = sharedCell (headAt r) (wordAt r n) n in
-        turn-at (putCell ranges r (16 * r + n) shared) (cell-length r (16 * r + n) shared) 1104 i place cell
+        turn-at (putCell ranges r (16 * r + n) shared) (cell-length r (16 * r + n) shared) tableLength i place cell
         (λ t size. getD-set-same t place cell 0 (omega (arith, size, few, bit-small (boundsAt r n i)))) (countIn (wordAt r n)) within
         (λ k l ne. cell-leaves r (16 * r + n) shared k place (λ e. ne (once n n k i inside inside l within (omega (arith, e)) .1)))
 
-    cell-put : (t : List ℕ) → length t ≡ 1104 → getD (putRule heads fragments ranges t r) place 0 ≡ cell
+    cell-put : (t : List ℕ) → length t ≡ tableLength → getD (putRule heads fragments ranges t r) place 0 ≡ cell
     unfolding putRule
     cell-put t size =
-        turn-at (putFragment fragments ranges (headAt r) r) (fragment-length (headAt r) r) 1104 n place cell fragment-put (roundIn (headAt r)) inside
+        turn-at (putFragment fragments ranges (headAt r) r) (fragment-length (headAt r) r) tableLength n place cell fragment-put (roundIn (headAt r)) inside
         (λ k l ne. fragment-leaves (headAt r) r k place (λ j m e. ne (once k n j i l inside m within (omega (arith, e)) .0)))
         (set t (limitAt r) (timeIn (headAt r))) (length-set t (limitAt r) (timeIn (headAt r)) ∙ size)
 
   -- ---- the rules' words, when all are stored
 
-  module _ (count : ℕ) (few : count ≤ 16) (t : List ℕ) (size : length t ≡ 1104) where
+  module _ (count : ℕ) (few : count ≤ 16) (t : List ℕ) (size : length t ≡ tableLength) where
     abbrev filled : List ℕ
     filled = inTurn (putRule heads fragments ranges) count t
 
@@ -112,7 +112,7 @@ module _ (heads fragments ranges : List ℕ) where
     module _ (r : ℕ) (here : r < count) where
       pub limit-at : getD filled (limitAt r) 0 ≡ timeIn (headAt r)
       limit-at =
-          turn-at (putRule heads fragments ranges) rule-length 1104 r (limitAt r) (timeIn (headAt r)) (limit-put r (omega (arith, here, few))) count here
+          turn-at (putRule heads fragments ranges) rule-length tableLength r (limitAt r) (timeIn (headAt r)) (limit-put r (omega (arith, here, few))) count here
           (λ k l ne. rule-leaves k (limitAt r) (λ m s e. omega (arith, e, here, few)) (λ e. ne (omega (arith, e)))) t size
 
       -- at a name's place stands the cell of its range
@@ -121,6 +121,6 @@ module _ (heads fragments ranges : List ℕ) where
       cell-at once n i inside within =
           let small : bitIn (boundsAt r n i) < 64 = bit-small (boundsAt r n i) in
           let low : r < 16 = omega (arith, here, few) in
-          turn-at (putRule heads fragments ranges) rule-length 1104 r (cellAt r (bitIn (boundsAt r n i))) (cellWith (sharedCell (headAt r) (wordAt r n) n) (boundsAt r n i) i)
+          turn-at (putRule heads fragments ranges) rule-length tableLength r (cellAt r (bitIn (boundsAt r n i))) (cellWith (sharedCell (headAt r) (wordAt r n) n) (boundsAt r n i) i)
           (cell-put r low once n i inside within) count here
           (λ k l ne. rule-leaves k (cellAt r (bitIn (boundsAt r n i))) (λ m s e. ne (omega (arith, small, s, e))) (λ e. omega (arith, l, few, e))) t size

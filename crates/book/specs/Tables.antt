@@ -8,7 +8,7 @@ use lib.Bits.{bitOr}
 use lib.ListN.{getD, set, replicate}
 use Rattle.names.specs.Names.{member, insert}
 use Rattle.tables.specs.Words.{cap, timeIn, roundIn, countIn, bitIn}
-use Rattle.tables.specs.Cells.{limitAt, cellAt}
+use Rattle.tables.specs.Cells.{limitAt, cellAt, tableLength}
 use Rattle.cells.specs.Making.{sharedCell, cellWith}
 
 -- f of each number below n, stored at it
@@ -81,4 +81,4 @@ module _ (heads fragments ranges : List ℕ) where
   unfoldable pub tableOf : ℕ → List ℕ
   tableOf count =
       let sets : List ℕ = ruleTable heads (nameTable fragments ranges) in
-      inTurn putRule (cap 16 count) (stored (λ m. maskOf sets m (cap 16 count)) 64 (replicate 1104 0))
+      inTurn putRule (cap 16 count) (stored (λ m. maskOf sets m (cap 16 count)) 64 (replicate tableLength 0))

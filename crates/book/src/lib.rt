@@ -6,6 +6,7 @@ ghost use Rattle.names.specs.Names.{member, insert};
 ghost use Rattle.tables.specs.Words.{cap, roundIn};
 ghost use Rattle.book.specs.Tables.{stored, inTurn, fragmentSet, nameTable, ruleSet, ruleTable, maskOf, putCell, putFragment, putRule, tableOf};
 ghost use Rattle.book.specs.Books.{Translates, bookFrom};
+use tables::Table;
 
 // ---- the names of each fragment
 
@@ -103,12 +104,12 @@ fn mask_of(sets: &[u64; 16], m: u8, count: usize) -> u64
 }
 
 // Stores each name's mask.
-fn put_masks(table: &mut [u64; 1104], sets: &[u64; 16], count: usize)
+fn put_masks(table: &mut Table, sets: &[u64; 16], count: usize)
     requires { ⌜ count ≤ 16 ⌝ }
     ensures { λ x. ⌜ now (table .exit) ≡ stored (λ (m : ℕ). maskOf (now (sets .entry)) m count) 64 (now (table .entry)) ⌝ }
 {
     let mut m = 0usize;
-    while m < 64 {
+    while m < tables::NAMES {
         table[m] = mask_of(sets, m as u8, count);
         m = m + 1;
     }
@@ -118,7 +119,7 @@ fn put_masks(table: &mut [u64; 1104], sets: &[u64; 16], count: usize)
 
 // Stores the cells of fragment k of the pages, one of rule r's.
 fn put_ranges(
-    table: &mut [u64; 1104],
+    table: &mut Table,
     ranges: &[u64; 2048],
     r: usize,
     k: usize,
@@ -128,7 +129,7 @@ fn put_ranges(
     requires { ⌜ (r < 16) × (k < 256) × (shared < 262144) × (count ≤ 8) ⌝ }
     ensures { λ x. ⌜ now (table .exit) ≡ inTurn (putCell (now (ranges .entry)) r k shared) count (now (table .entry)) ⌝ }
 {
-    let first = 80 + 64 * r;
+    let first = tables::CELLS + tables::NAMES * r;
     let base = 8 * k;
     let mut i = 0usize;
     while i < count {
@@ -141,7 +142,7 @@ fn put_ranges(
 
 // Stores the cells of rule r.
 fn put_fragments<'a>(
-    table: &mut [u64; 1104],
+    table: &mut Table,
     fragments: &'a [u16; 256],
     ranges: &'a [u64; 2048],
     head: u64,
@@ -164,7 +165,7 @@ fn put_fragments<'a>(
 
 // Stores each rule's t and cells.
 fn put_rules<'a>(
-    table: &mut [u64; 1104],
+    table: &mut Table,
     heads: &'a [u64; 16],
     fragments: &'a [u16; 256],
     ranges: &'a [u64; 2048],
@@ -176,7 +177,7 @@ fn put_rules<'a>(
     let mut r = 0usize;
     while r < count {
         let head = heads[r];
-        table[64 + r] = tables::time(head) as u64;
+        table[tables::LIMITS + r] = tables::time(head) as u64;
         put_fragments(table, fragments, ranges, head, r);
         r = r + 1;
     }
@@ -195,8 +196,8 @@ pub struct Book {
     pub fragments: [u16; 256],
     // that fragment's range s at 8 (16 r + f) + s: name, u and v
     pub ranges: [u64; 2048],
-    // at name n, the mask of the rules that hold it; at 64 + r, rule r's t; at 80 + 64 r + n, what rule r says of name n
-    pub table: [u64; 1104],
+    // what a monitor looks up: the rules that hold each name, each rule's t, and what each rule says of each of its names
+    pub table: Table,
 }
 
 pub struct Translation {
@@ -210,13 +211,13 @@ fn table_of<'a>(
     fragments: &'a [u16; 256],
     ranges: &'a [u64; 2048],
     count: u8,
-) -> [u64; 1104]
+) -> Table
     ensures { λ x. ⌜ x ≡ tableOf (now (heads .entry)) (now (fragments .entry)) (now (ranges .entry)) count ⌝ }
 {
     let n = few(count);
     let names = name_table(fragments, ranges);
     let sets = rule_table(heads, &names);
-    let mut table = [0u64; 1104];
+    let mut table = [0u64; tables::LENGTH];
     put_masks(&mut table, &sets, n);
     put_rules(&mut table, heads, fragments, ranges, n);
     table

@@ -4,11 +4,12 @@ ghost use Rattle.monitor.specs.Promise.{Observes, Says};
 ghost use Rattle.value.specs.Value.{numbersOf, byValue};
 use answers::Answer;
 use answers::Observation;
+use tables::Table;
 use value::Answered;
 use value::Monitor;
 
 // One observation of the monitor that is handed over, under the book whose table is lent: the answer, and the monitor that the call left in the local that was lent to it.
-pub fn observed(m: Monitor, table: &[u64; 1104], o: Observation) -> Answered
+pub fn observed(m: Monitor, table: &Table, o: Observation) -> Answered
     ensures { λ r. ⌜ Observes byValue (now (table .entry)) m o (r .answer) (r .monitor) ⌝ }
 {
     let mut s = m;

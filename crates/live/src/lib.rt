@@ -1,5 +1,5 @@
 // A live session for C hosts (document 01, "Observing"): "The host's session keeps one monitor, lent to the guard and changed in place". The host lends the book's table, which opening
-// writes and nothing else changes, and the monitor's 34 words. An answer is one number (crate `replies`). The number in a call's name is that of the layout of what is lent: a host of
+// writes and nothing else changes, and the monitor's words. An answer is one number (crate `replies`). The number in a call's name is that of the layout of what is lent: a host of
 // another layout does not link.
 ghost use mathlib.Core.Path.{_≡_};
 ghost use Rattle.layout.specs.Terms.{today};
@@ -7,10 +7,12 @@ ghost use Rattle.words.specs.Words.{heldBy};
 ghost use Rattle.answers.specs.declared.Observation.the-variants.{Event, Clock};
 ghost use Rattle.monitor.specs.Promise.{inWords, Freshes};
 ghost use Rattle.live.specs.Live.{libraryVersion, Opens, Notes, verdictIs};
+use tables::Table;
+use words::Memory;
 
 // Reads a sheet into the table of its book and makes a fresh monitor; 0. Or the sheet's refusal and its place: then neither is changed.
 #[no_mangle]
-pub extern "C" fn guard2_open(sheet: &[u8], book: &mut [u64; 1104], monitor: &mut [u64; 34]) -> u64
+pub extern "C" fn guard2_open(sheet: &[u8], book: &mut Table, monitor: &mut Memory) -> u64
     ensures { λ r. ⌜ Opens (now (sheet .entry)) (record { table = now (book .entry); monitor = now (monitor .entry) }) r (record { table = now (book .exit); monitor = now (monitor .exit) }) ⌝ }
 {
     let t = book::translate(sheet);
@@ -33,7 +35,7 @@ pub extern "C" fn guard2_open(sheet: &[u8], book: &mut [u64; 1104], monitor: &mu
 
 // Makes the monitor a fresh one, for whatever book.
 #[no_mangle]
-pub extern "C" fn guard2_start(monitor: &mut [u64; 34])
+pub extern "C" fn guard2_start(monitor: &mut Memory)
     ensures { λ _. ⌜ Freshes inWords (now (monitor .exit)) ⌝ }
 {
     let first = monitor::fresh();
@@ -42,12 +44,7 @@ pub extern "C" fn guard2_start(monitor: &mut [u64; 34])
 
 // One event, under the book whose table is lent. A name of 64 or more, of whatever width, is one that the judge refuses.
 #[no_mangle]
-pub extern "C" fn guard2_event(
-    book: &[u64; 1104],
-    monitor: &mut [u64; 34],
-    name: u32,
-    time: u32,
-) -> u64
+pub extern "C" fn guard2_event(book: &Table, monitor: &mut Memory, name: u32, time: u32) -> u64
     ensures { λ r. ⌜ Notes (now (book .entry)) (now (monitor .entry)) (Event name time) r (now (monitor .exit)) ⌝ }
 {
     let a = monitor::note(book, monitor, name, time);
@@ -56,7 +53,7 @@ pub extern "C" fn guard2_event(
 
 // One clock reading.
 #[no_mangle]
-pub extern "C" fn guard2_clock(book: &[u64; 1104], monitor: &mut [u64; 34], time: u32) -> u64
+pub extern "C" fn guard2_clock(book: &Table, monitor: &mut Memory, time: u32) -> u64
     ensures { λ r. ⌜ Notes (now (book .entry)) (now (monitor .entry)) (Clock time) r (now (monitor .exit)) ⌝ }
 {
     let a = monitor::tick(book, monitor, time);
@@ -65,7 +62,7 @@ pub extern "C" fn guard2_clock(book: &[u64; 1104], monitor: &mut [u64; 34], time
 
 // The verdict that the monitor holds.
 #[no_mangle]
-pub extern "C" fn guard2_verdict(monitor: &[u64; 34]) -> u64
+pub extern "C" fn guard2_verdict(monitor: &Memory) -> u64
     ensures { λ r. ⌜ verdictIs r (now (monitor .entry)) ⌝ }
 {
     replies::answer_word(monitor::verdict(monitor))
@@ -73,7 +70,7 @@ pub extern "C" fn guard2_verdict(monitor: &[u64; 34]) -> u64
 
 // The number of observations that the monitor has taken.
 #[no_mangle]
-pub extern "C" fn guard2_taken(monitor: &[u64; 34]) -> u32
+pub extern "C" fn guard2_taken(monitor: &Memory) -> u32
     ensures { λ r. ⌜ r ≡ heldBy (now (monitor .entry)) .taken ⌝ }
 {
     monitor::count(monitor)

@@ -19,7 +19,7 @@ use Rattle.layout.specs.Pages.{ruleAt}
 use Rattle.book.specs.Looks.{Looks}
 use Rattle.book.specs.declared.Book.{Book}
 use Rattle.step.specs.Shows.{Shows, running}
-use Rattle.words.specs.Words.{noState, Held, heldBy, lastWord}
+use Rattle.words.specs.Words.{memoryLength, statusAt, noState, Held, heldBy, lastWord}
 use Rattle.opening.specs.Fresh.{freshHeld}
 use Rattle.answers.specs.Observe.{observeOf}
 use Rattle.answers.specs.declared.Observation.{Observation}
@@ -75,9 +75,9 @@ pub record Form (X : Type 0) : Type 1 where
   pub Fits : X → Type 0
   pub Blank : X → Type 0
 
--- in words, which are 34: their type says so, but a contract is not told the length of an array behind a reference
+-- in words: their type says how many, but a contract is not told the length of an array behind a reference
 abbrev pub inWords : Form (List ℕ)
-inWords = record { held = heldBy; Fits = λ (m : List ℕ). length m ≡ 34; Blank = λ (m : List ℕ). getD m 33 0 ≡ lastWord (heldBy m) }
+inWords = record { held = heldBy; Fits = λ (m : List ℕ). length m ≡ memoryLength; Blank = λ (m : List ℕ). getD m statusAt 0 ≡ lastWord (heldBy m) }
 
 module _ {X : Type 0} (F : Form X) where
   -- a monitor follows what the judge keeps, under the book of the sheet

@@ -1,4 +1,4 @@
-// One observation of a book's monitor (document 01, "Observing"), for every table and every monitor: the monitor's 34 words are lent and changed in place, and the book's table is lent by
+// One observation of a book's monitor (document 01, "Observing"), for every table and every monitor: the monitor's words are lent and changed in place, and the book's table is lent by
 // reference. What it makes of the rules is crate `rules`, what it answers crate `answers`; what it means for the book of a sheet is crate `monitor`.
 ghost use Rattle.words.specs.Words.{heldBy};
 ghost use Rattle.answers.specs.Observe.{observeOf};
@@ -6,10 +6,12 @@ ghost use Rattle.answers.specs.Leaving.{Leaves};
 ghost use Rattle.answers.specs.declared.Observation.the-variants.{Event, Clock};
 use answers::Answer;
 use answers::Observation;
+use tables::Table;
+use words::Memory;
 
 // An event. "A stopped book gives that same answer to every later observation, unchecked." A name of 64 or more is refused, so that the table has the name; then a time before the latest
 // one, and a full count: "A refused one answers its refusal number alone and changes nothing."
-pub fn noted(table: &[u64; 1104], m: &mut [u64; 34], name: u32, time: u32) -> Answer
+pub fn noted(table: &Table, m: &mut Memory, name: u32, time: u32) -> Answer
     ensures { λ r. ⌜ Leaves (now (m .entry)) (observeOf (now (table .entry)) (heldBy (now (m .entry))) (Event name time)) r (now (m .exit)) ⌝ }
 {
     if words::verdict(m) == 2 {
@@ -33,7 +35,7 @@ pub fn noted(table: &[u64; 1104], m: &mut [u64; 34], name: u32, time: u32) -> An
 }
 
 // A clock reading. It concerns no rule, so that none steps.
-pub fn ticked(table: &[u64; 1104], m: &mut [u64; 34], time: u32) -> Answer
+pub fn ticked(table: &Table, m: &mut Memory, time: u32) -> Answer
     ensures { λ r. ⌜ Leaves (now (m .entry)) (observeOf (now (table .entry)) (heldBy (now (m .entry))) (Clock time)) r (now (m .exit)) ⌝ }
 {
     if words::verdict(m) == 2 {
@@ -53,7 +55,7 @@ pub fn ticked(table: &[u64; 1104], m: &mut [u64; 34], time: u32) -> Answer
 }
 
 // One observation, for every table and every monitor.
-pub fn observed_by(table: &[u64; 1104], m: &mut [u64; 34], o: Observation) -> Answer
+pub fn observed_by(table: &Table, m: &mut Memory, o: Observation) -> Answer
     ensures { λ r. ⌜ Leaves (now (m .entry)) (observeOf (now (table .entry)) (heldBy (now (m .entry))) o) r (now (m .exit)) ⌝ }
 {
     match o {

@@ -1,9 +1,10 @@
 // A monitor's words before any observation. They do not depend on the book.
 ghost use Rattle.words.specs.Words.{Holds};
 ghost use Rattle.opening.specs.Fresh.{freshHeld};
+use words::Memory;
 
 // A monitor that has taken nothing: to no rule has anything come.
-pub fn unstarted() -> [u64; 34]
+pub fn unstarted() -> Memory
     ensures { λ m. ⌜ Holds m freshHeld ⌝ }
 {
     let st = step::RuleState {
@@ -13,7 +14,7 @@ pub fn unstarted() -> [u64; 34]
         count: 0,
         end: 0,
     };
-    let mut m = [0u64; 34];
+    let mut m = [0u64; words::LENGTH];
     let mut r = 0usize;
     while r < 16 {
         words::store(&mut m, r, st);

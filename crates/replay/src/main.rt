@@ -5,6 +5,7 @@ ghost use Prim.Native.Nat.{_+_, _*_, _≤_, _<_};
 ghost use lib.ListN.{length};
 use answers::Answer;
 use answers::Observation;
+use tables::Table;
 use value::Answered;
 use value::Monitor;
 
@@ -70,7 +71,7 @@ fn observation(s: &[u8], at: usize) -> Observation
     }
 }
 
-fn turned(lent: bool, table: &[u64; 1104], m: Monitor, o: Observation) -> Answered {
+fn turned(lent: bool, table: &Table, m: Monitor, o: Observation) -> Answered {
     if lent {
         return lending::observed(m, table, o);
     }
@@ -92,7 +93,7 @@ fn taken_by(lent: bool, m: Monitor) -> u32 {
 }
 
 // One record, observed by value or by lending the monitor to the session, and told.
-fn step(lent: bool, table: &[u64; 1104], m: Monitor, o: Observation) -> Monitor {
+fn step(lent: bool, table: &Table, m: Monitor, o: Observation) -> Monitor {
     let r = turned(lent, table, m, o);
     let answer = r.answer;
     tell(answer);
@@ -101,7 +102,7 @@ fn step(lent: bool, table: &[u64; 1104], m: Monitor, o: Observation) -> Monitor 
 }
 
 // The records of a part of the input.
-fn observe_all(lent: bool, table: &[u64; 1104], start: Monitor, log: &[u8]) -> Monitor {
+fn observe_all(lent: bool, table: &Table, start: Monitor, log: &[u8]) -> Monitor {
     let mut m = start;
     let mut at = 0usize;
     while at < log.len() {

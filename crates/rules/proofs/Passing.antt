@@ -21,7 +21,7 @@ use Rattle.step.specs.declared.RuleState.{RuleState}
 use Rattle.step.specs.declared.Stepped.{Stepped}
 use Rattle.fragment.specs.Upto.{mapN}
 use Rattle.step.specs.Steps.{actOf}
-use Rattle.words.specs.Words.{noState, rulesIn, Stores}
+use Rattle.words.specs.Words.{memoryLength, noState, rulesIn, Stores}
 use Rattle.words.proofs.Laws.{middle, upper}
 use Rattle.words.proofs.Places.{mapN-alike, mapN-same, set-mapN, getD-mapN}
 use Rattle.rules.specs.declared.Masks.{Masks}
@@ -95,7 +95,7 @@ module _ (all r k : ℕ) (rule : r < 16) where
 
 -- ---- one rule's new state is stored
 
-pub steps-stored : (x s : Stepped) {r : ℕ} {before after : List ℕ} → r < 16 → s ≡ x → (length before ≡ 34 → Stores before (r % 16) (s .state) after)
+pub steps-stored : (x s : Stepped) {r : ℕ} {before after : List ℕ} → r < 16 → s ≡ x → (length before ≡ memoryLength → Stores before (r % 16) (s .state) after)
     → Steps x r before (s .standing) after
 steps-stored x s {r} {before} h e st =
     let own : r % 16 ≡ r = omega arith in
@@ -214,7 +214,7 @@ module _ (table : List ℕ) (noted who name time : ℕ) (old : List RuleState) w
       ∙ ap (λ (t : Bool). cond t (actOf table (0 + r) (getD old r noState) name time .state) (getD old r noState)) unseen
 
   pub stepping-more : {before after : List ℕ} {todo todo′ all made r s : ℕ} → Stepping (rulesIn before) todo all → member todo r ≡ true → r < 16 → Less todo r todo′
-      → Steps (actOf table r (getD (rulesIn before) r noState) name time) r before s after → length before ≡ 34 → Marks all r s made → Stepping (rulesIn after) todo′ made
+      → Steps (actOf table r (getD (rulesIn before) r noState) name time) r before s after → length before ≡ memoryLength → Marks all r s made → Stepping (rulesIn after) todo′ made
   stepping-more {before} {after} {todo} {todo′} {all} {made} {r} {s} p inside rule left st l w =
       let was : getD (rulesIn before) r noState ≡ getD old r noState = left-alone p inside rule in
       let within : (k : ℕ) → member todo k ≡ true → member who k ≡ true = p .notes .within in

@@ -9,7 +9,7 @@ use lib.ListN.{length, getD, set}
 use Rattle.names.specs.Names.{member}
 use Rattle.step.specs.declared.RuleState.{RuleState}
 use Rattle.step.specs.declared.Stepped.{Stepped}
-use Rattle.words.specs.Words.{noState, rulesIn}
+use Rattle.words.specs.Words.{memoryLength, noState, rulesIn}
 use Rattle.rules.specs.declared.Masks.{Masks}
 use Rattle.masks.specs.Masks.{maskN, Union, With}
 use Rattle.fragment.specs.Upto.{mapN}
@@ -109,24 +109,24 @@ pub record Tells (all left : ℕ) (p : Masks) : Type 0 where
   pub opened< : p .opens < 2 ^ 16
   pub due : p .dues ≡ dueIn all
 
--- ---- in a monitor's words, which are 34, as their type says
+-- ---- in a monitor's words, of which there are so many as their type says
 
 -- rule r becomes s: how it stands, and the words that it leaves
 pub record Steps (s : Stepped) (r : ℕ) (before : List ℕ) (standing : ℕ) (after : List ℕ) : Type 0 where
   pub stands : standing ≡ s .standing
-  pub long : length before ≡ 34 → length after ≡ 34
-  pub moves : length before ≡ 34 → rulesIn after ≡ set (rulesIn before) r (s .state)
+  pub long : length before ≡ memoryLength → length after ≡ memoryLength
+  pub moves : length before ≡ memoryLength → rulesIn after ≡ set (rulesIn before) r (s .state)
 
 -- the rules of `who` step
 abbrev pub stepsAt : List ℕ → ℕ → ℕ → ℕ → ℕ → RuleState → RuleState
 stepsAt table who name time k st = cond (member who k) (actOf table k st name time .state) st
 
 pub record StepsAll (table : List ℕ) (noted who name time : ℕ) (before : List ℕ) (all : ℕ) (after : List ℕ) : Type 0 where
-  pub long : length before ≡ 34 → length after ≡ 34
-  pub moves : length before ≡ 34 → rulesIn after ≡ mapN (stepsAt table who name time) 0 16 (rulesIn before)
-  pub notes : length before ≡ 34 → Notes noted who (λ k. actOf table k (getD (rulesIn before) k noState) name time .standing) all
+  pub long : length before ≡ memoryLength → length after ≡ memoryLength
+  pub moves : length before ≡ memoryLength → rulesIn after ≡ mapN (stepsAt table who name time) 0 16 (rulesIn before)
+  pub notes : length before ≡ memoryLength → Notes noted who (λ k. actOf table k (getD (rulesIn before) k noState) name time .standing) all
 
 -- all of them
 pub record Passes (table : List ℕ) (concerned opens dues name time : ℕ) (before : List ℕ) (p : Masks) (after : List ℕ) : Type 0 where
-  pub long : length before ≡ 34 → length after ≡ 34
-  pub passes : length before ≡ 34 → record { rules = rulesIn after; broken = p .broken; opens = p .opens; dues = p .dues } ≡ passOf table concerned opens dues (rulesIn before) name time
+  pub long : length before ≡ memoryLength → length after ≡ memoryLength
+  pub passes : length before ≡ memoryLength → record { rules = rulesIn after; broken = p .broken; opens = p .opens; dues = p .dues } ≡ passOf table concerned opens dues (rulesIn before) name time

@@ -1,4 +1,4 @@
-// The sixteen rules at one observation (document 01, "Observing"): the monitor's 34 words are lent and changed in place, and the book's table is lent by reference. Only the words of
+// The sixteen rules at one observation (document 01, "Observing"): the monitor's words are lent and changed in place, and the book's table is lent by reference. Only the words of
 // the rules that the observation concerns are read or written, and the state of each goes by value.
 ghost use mathlib.Core.Path.{_≡_};
 ghost use Prim.Native.Nat.{ℕ, _<_};
@@ -6,6 +6,8 @@ ghost use lib.ListN.{getD};
 ghost use Rattle.step.specs.Steps.{actOf};
 ghost use Rattle.words.specs.Words.{noState, rulesIn};
 ghost use Rattle.rules.specs.Pass.{marksOf, waitedOf, Marks, Steps, Waits, StepsAll, Tells, Passes};
+use tables::Table;
+use words::Memory;
 
 // ---- three masks in one word
 
@@ -37,7 +39,7 @@ fn marked(all: u64, r: usize, standing: u8) -> u64
 // ---- one rule
 
 // Rule r, which has the name, steps; how it then stands.
-fn stepped(table: &[u64; 1104], m: &mut [u64; 34], r: usize, name: u8, time: u32) -> u8
+fn stepped(table: &Table, m: &mut Memory, r: usize, name: u8, time: u32) -> u8
     requires { ⌜ r < 16 ⌝ }
     ensures { λ k. ⌜ Steps (actOf (now (table .entry)) r (getD (rulesIn (now (m .entry))) r noState) name time) r (now (m .entry)) k (now (m .exit)) ⌝ }
 {
@@ -49,18 +51,18 @@ fn stepped(table: &[u64; 1104], m: &mut [u64; 34], r: usize, name: u8, time: u32
 }
 
 // How rule r, whose deadline runs, stands at a time. Its state stays.
-fn waited(table: &[u64; 1104], m: &[u64; 34], r: usize, time: u32) -> u8
+fn waited(table: &Table, m: &Memory, r: usize, time: u32) -> u8
     requires { ⌜ r < 16 ⌝ }
     ensures { λ k. ⌜ k ≡ waitedOf (now (table .entry)) r (getD (rulesIn (now (m .entry))) r noState) time .standing ⌝ }
 {
-    let limit = tables::limit_in(table[64 + r]);
+    let limit = tables::limit_in(table[tables::LIMITS + r]);
     deadline::due(limit, words::end_of(m, r), time)
 }
 
 // ---- the rules of a mask, one by one
 
 // Each rule is held to its deadline.
-fn all_waited(table: &[u64; 1104], m: &[u64; 34], who: u16, time: u32) -> u64
+fn all_waited(table: &Table, m: &Memory, who: u16, time: u32) -> u64
     ensures { λ all. ⌜ Waits (now (table .entry)) who time (rulesIn (now (m .entry))) all ⌝ }
 {
     let mut all = 0u64;
@@ -74,14 +76,7 @@ fn all_waited(table: &[u64; 1104], m: &[u64; 34], who: u16, time: u32) -> u64
 }
 
 // Each rule steps; its standing goes to those noted before.
-fn all_stepped(
-    table: &[u64; 1104],
-    m: &mut [u64; 34],
-    noted: u64,
-    who: u16,
-    name: u8,
-    time: u32,
-) -> u64
+fn all_stepped(table: &Table, m: &mut Memory, noted: u64, who: u16, name: u8, time: u32) -> u64
     ensures { λ all. ⌜ StepsAll (now (table .entry)) noted who name time (now (m .entry)) all (now (m .exit)) ⌝ }
 {
     let mut all = noted;
@@ -114,7 +109,7 @@ fn told(all: u64, left: u16) -> Masks
 }
 
 // An observation that concerns no rule, a clock reading or an event on a name that no rule has: the rules whose deadline runs are held to it, and no rule's state changes.
-pub fn held(table: &[u64; 1104], m: &[u64; 34], opens: u16, dues: u16, time: u32) -> Masks
+pub fn held(table: &Table, m: &Memory, opens: u16, dues: u16, time: u32) -> Masks
     ensures { λ p. ⌜ ((name : ℕ) → Passes (now (table .entry)) 0 opens dues name time (now (m .entry)) p (now (m .entry))) ⌝ }
 {
     let all = all_waited(table, m, dues, time);
@@ -124,8 +119,8 @@ pub fn held(table: &[u64; 1104], m: &[u64; 34], opens: u16, dues: u16, time: u32
 // The rules that have the name step, and those whose deadline runs are held to it; each other rule stays as it is, open if it was open. An observation that concerns no rule ends before
 // anything that steps one.
 pub fn looked(
-    table: &[u64; 1104],
-    m: &mut [u64; 34],
+    table: &Table,
+    m: &mut Memory,
     concerned: u16,
     opens: u16,
     dues: u16,

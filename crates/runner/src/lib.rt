@@ -11,6 +11,8 @@ ghost use Rattle.runner.specs.Log.{ended, openMask, refusedAt, turnedAwa
 ghost use Rattle.runner.specs.Runs.{Runs, Plays, Turns, endedIn};
 use answers::Answer;
 use answers::Observation;
+use tables::Table;
+use words::Memory;
 
 // ---- the five numbers
 
@@ -62,7 +64,7 @@ fn broken(k: u32, mask: u16, taken: u32) -> Outcome
 }
 
 // What a monitor says once nothing more is looked at: its verdict, which is no refusal.
-fn ended(m: &[u64; 34]) -> Outcome
+fn ended(m: &Memory) -> Outcome
     ensures { λ r. ⌜ r ≡ endedIn (now (m .entry)) ⌝ }
 {
     let taken = monitor::count(m);
@@ -75,7 +77,7 @@ fn ended(m: &[u64; 34]) -> Outcome
 }
 
 // The mask of the open rules: 0 where the verdict is another.
-fn open_mask(m: &[u64; 34]) -> u16
+fn open_mask(m: &Memory) -> u16
     ensures { λ r. ⌜ r ≡ openMask (verdictIn (heldBy (now (m .entry)))) ⌝ }
 {
     let v = monitor::verdict(m);
@@ -86,7 +88,7 @@ fn open_mask(m: &[u64; 34]) -> u16
 }
 
 // A refused record: "after a record's refusal it is the open mask just before"; the place is the record's offset.
-fn refused_at(number: u8, m: &[u64; 34], at: u32) -> Outcome
+fn refused_at(number: u8, m: &Memory, at: u32) -> Outcome
     ensures { λ r. ⌜ r ≡ refusedAt number (verdictIn (heldBy (now (m .entry)))) (heldBy (now (m .entry)) .taken) at ⌝ }
 {
     let mask = open_mask(m);
@@ -142,7 +144,7 @@ fn stopped(outcome: Outcome) -> Turned
 }
 
 // One record's observation: "Only a refusal or a break stops" the run.
-fn turn(table: &[u64; 1104], m: &mut [u64; 34], o: Observation, at: u32) -> Turned
+fn turn(table: &Table, m: &mut Memory, o: Observation, at: u32) -> Turned
     ensures { λ r. ⌜ Turns (now (table .entry)) (now (m .entry)) o at r (now (m .exit)) ⌝ }
 {
     let answer = monitor::observe(table, m, o);
@@ -156,7 +158,7 @@ fn turn(table: &[u64; 1104], m: &mut [u64; 34], o: Observation, at: u32) -> Turn
 // ---- the records one after the other
 
 // At most n records, from a fresh monitor on.
-fn play(table: &[u64; 1104], log: &[u8], n: u32) -> Outcome
+fn play(table: &Table, log: &[u8], n: u32) -> Outcome
     requires { ⌜ (5 * n ≤ length (now log)) × (length (now log) ≤ 4294967295) ⌝ }
     ensures { λ r. ⌜ Plays (now (table .entry)) (now (log .entry)) n r ⌝ }
 {
@@ -186,7 +188,7 @@ fn at_most(budget: u32, count: u32) -> u32
 
 // A run over a log under the book whose table is lent: 14 if the log is no list of records; else the judge's answers to its records, up to the budget.
 // For a table of no sheet's book the verdict is the program's choice; refusals, the number taken and the place are as for any other. The call returns, and touches nothing.
-pub fn run(table: &[u64; 1104], log: &[u8], budget: u32) -> Outcome
+pub fn run(table: &Table, log: &[u8], budget: u32) -> Outcome
     ensures { λ r. ⌜ Runs (now (table .entry)) (now (log .entry)) budget r ⌝ }
 {
     let len = log.len();

@@ -6,6 +6,7 @@ ghost use Rattle.session.specs.Session.{Opens};
 use answers::Answer;
 use answers::Observation;
 use book::Book;
+use tables::Table;
 use value::Monitor;
 
 // What opening a session from a sheet's bytes gives: the reader's answer, and the book and the monitor to go on with.
@@ -51,7 +52,7 @@ pub fn start(m: &mut Monitor)
 
 // One observation of the session's monitor under the book whose table is lent: the judge's answer, and the monitor is left as one that follows what the judge then keeps. A refused observation leaves it equal, and so does each one after a break.
 // For a table or a monitor that these calls did not make, or a monitor that has observed under another book, the verdict is the program's choice; the answer is one of the four, and refused exactly as the monitor's own numbers say. The call returns, and touches nothing but the monitor.
-pub fn observe(m: &mut Monitor, table: &[u64; 1104], o: Observation) -> Answer
+pub fn observe(m: &mut Monitor, table: &Table, o: Observation) -> Answer
     ensures { λ r. ⌜ Observes byValue (now (table .entry)) (now (m .entry)) o r (now (m .exit)) ⌝ }
 {
     let s = *m;

@@ -4,6 +4,7 @@
 ghost use mathlib.Core.Path.{_≡_};
 ghost use Prim.Native.Nat.{_%_};
 ghost use Rattle.step.specs.Steps.{brokenOf, standingOf, stoodOf, beginOf, movedBy, longerOf, otherOf, passOf, cellIn, releasedOf, actOf};
+use tables::Table;
 
 // "The monitor's state holds, for each rule, its fragment number, eight recogniser states, one count and the end time of P." Beside them the name whose range counts, by which its cell is
 // found. A count of 0 is that of a rule to which nothing has come.
@@ -164,14 +165,14 @@ fn passes(c: u64, d: u64, st: RuleState, name: u8, time: u32) -> Stepped
 }
 
 // The cell of a name.
-fn cell_at(table: &[u64; 1104], rule: usize, name: u8) -> u64
+fn cell_at(table: &Table, rule: usize, name: u8) -> u64
     ensures { λ c. ⌜ c ≡ cellIn (now (table .entry)) (rule % 16) name ⌝ }
 {
-    table[80 + 64 * (rule % 16) + (name % 64) as usize]
+    table[tables::CELLS + tables::NAMES * (rule % 16) + (name % 64) as usize]
 }
 
 // Rule r, to which an event has come, is released: it stands at the trigger of kind 0. The cell is one that `act` looks up too; compiled, that is one look-up.
-fn released(table: &[u64; 1104], r: usize, st: RuleState) -> bool
+fn released(table: &Table, r: usize, st: RuleState) -> bool
     ensures { λ b. ⌜ b ≡ releasedOf (now (table .entry)) (r % 16) st ⌝ }
 {
     let cell = cell_at(table, r, st.current);
@@ -179,7 +180,7 @@ fn released(table: &[u64; 1104], r: usize, st: RuleState) -> bool
 }
 
 // An event on one of rule r's names.
-pub fn act(table: &[u64; 1104], r: usize, st: RuleState, name: u8, time: u32) -> Stepped
+pub fn act(table: &Table, r: usize, st: RuleState, name: u8, time: u32) -> Stepped
     ensures { λ s. ⌜ s ≡ actOf (now (table .entry)) (r % 16) st name time ⌝ }
 {
     if st.count == 0 {
@@ -197,7 +198,7 @@ pub fn act(table: &[u64; 1104], r: usize, st: RuleState, name: u8, time: u32) ->
     }
     let d = cell_at(table, r, st.current);
     let c = cell_at(table, r, name);
-    let limit = tables::limit_in(table[64 + r % 16]);
+    let limit = tables::limit_in(table[tables::LIMITS + r % 16]);
     if deadline::late(c, limit, st.end, time) {
         return broken(st);
     }

@@ -99,6 +99,10 @@ limitAt r = 64 + r
 abbrev pub cellAt : ℕ → ℕ → ℕ
 cellAt r name = 80 + 64 * r + name
 
+-- so many words
+abbrev pub tableLength : ℕ
+tableLength = 1104
+
 -- what a word of the table holds: a mask of rules; a time
 abbrev pub maskIn : ℕ → ℕ
 maskIn word = word % 65536

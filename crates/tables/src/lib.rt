@@ -150,6 +150,21 @@ pub fn most_in(cell: u64) -> u16
     (cell / 281474976710656 % 65536) as u16
 }
 
+// ---- the table of a book: at each name the mask of the rules that hold it; then each rule's t; then each rule's cells, by name
+
+// So many masks, and so many cells for each rule.
+pub const NAMES: usize = 64;
+
+// Rule r's t stands at LIMITS + r,
+pub const LIMITS: usize = NAMES;
+
+// and its cell of name n at CELLS + NAMES r + n.
+pub const CELLS: usize = LIMITS + 16;
+
+pub const LENGTH: usize = CELLS + 16 * NAMES;
+
+pub type Table = [u64; LENGTH];
+
 // ---- a word of the table: the rules that hold a name, and a rule's t
 
 pub fn mask_in(word: u64) -> u16

@@ -2,12 +2,14 @@
 // one. Its calls put it into words, make the calls of crate `monitor` there and take it out again, and promise the same.
 ghost use mathlib.Core.Path.{_≡_};
 ghost use lib.ListN.{length};
-ghost use Rattle.words.specs.Words.{heldBy, rulesIn, Holds};
+ghost use Rattle.words.specs.Words.{memoryLength, heldBy, rulesIn, Holds};
 ghost use Rattle.monitor.specs.Promise.{Observes, Freshes, Says};
 ghost use Rattle.value.specs.Value.{numbersOf, byValue};
 use answers::Answer;
 use answers::Observation;
 use step::RuleState;
+use tables::Table;
+use words::Memory;
 
 // "The monitor's state holds, for each rule, its fragment number, eight recogniser states, one count and the end time of P." Beside the sixteen: the number taken, the latest time, the
 // verdict (0 whole, 1 open, 2 broken) with its mask, and the rules whose deadline runs.
@@ -27,10 +29,10 @@ pub struct Answered {
 }
 
 // Sixteen states in words, and nothing beside them.
-fn rules_in_words(rules: [RuleState; 16]) -> [u64; 34]
-    ensures { λ w. ⌜ (length w ≡ 34) × (rulesIn w ≡ rules) ⌝ }
+fn rules_in_words(rules: [RuleState; 16]) -> Memory
+    ensures { λ w. ⌜ (length w ≡ memoryLength) × (rulesIn w ≡ rules) ⌝ }
 {
-    let mut w = [0u64; 34];
+    let mut w = [0u64; words::LENGTH];
     let mut r = 0usize;
     while r < 16 {
         let st = rules[r];
@@ -41,7 +43,7 @@ fn rules_in_words(rules: [RuleState; 16]) -> [u64; 34]
 }
 
 // A monitor in words.
-fn in_words(m: Monitor) -> [u64; 34]
+fn in_words(m: Monitor) -> Memory
     ensures { λ w. ⌜ Holds w (numbersOf m) ⌝ }
 {
     let rules = m.rules;
@@ -51,7 +53,7 @@ fn in_words(m: Monitor) -> [u64; 34]
 }
 
 // The sixteen states that words hold.
-fn rules_of(w: &[u64; 34]) -> [RuleState; 16]
+fn rules_of(w: &Memory) -> [RuleState; 16]
     ensures { λ rules. ⌜ rules ≡ rulesIn (now (w .entry)) ⌝ }
 {
     let none = RuleState {
@@ -72,7 +74,7 @@ fn rules_of(w: &[u64; 34]) -> [RuleState; 16]
 }
 
 // The monitor that words hold.
-fn of_words(w: &[u64; 34]) -> Monitor
+fn of_words(w: &Memory) -> Monitor
     ensures { λ m. ⌜ numbersOf m ≡ heldBy (now (w .entry)) ⌝ }
 {
     let rules = rules_of(w);
@@ -87,7 +89,7 @@ fn of_words(w: &[u64; 34]) -> Monitor
 }
 
 // One observation by value: what `monitor::observe` does in words.
-pub fn step(table: &[u64; 1104], m: Monitor, o: Observation) -> Answered
+pub fn step(table: &Table, m: Monitor, o: Observation) -> Answered
     ensures { λ r. ⌜ Observes byValue (now (table .entry)) m o (r .answer) (r .monitor) ⌝ }
 {
     let mut w = in_words(m);

@@ -8,7 +8,7 @@ use lib.ListN.{length, getD, set, replicate, length-set}
 use lib.Seq.{getD-set-same, getD-set-other}
 use Rattle.step.specs.declared.RuleState.{RuleState}
 use Rattle.fragment.specs.Upto.{length-mapN}
-use Rattle.words.specs.Words.{stateIn, stateAt, noState, ruleFrom, rulesIn, Stores, Holds}
+use Rattle.words.specs.Words.{memoryLength, progressAt, statusAt, stateIn, stateAt, noState, ruleFrom, rulesIn, Stores, Holds}
 use Rattle.words.proofs.Places.{mapN-within, set-mapN, getD-mapN}
 
 -- ---- the rules
@@ -27,14 +27,14 @@ unfolding rulesIn
 set-rule m after r h e = set-mapN (ruleFrom m) (ruleFrom after) 16 r (replicate 16 noState) noState h (omega arith) (λ j x n. e j n)
 
 -- words past the rules'
-pub same-rules : (m : List ℕ) (k w : ℕ) → 32 ≤ k → rulesIn (set m k w) ≡ rulesIn m
+pub same-rules : (m : List ℕ) (k w : ℕ) → progressAt ≤ k → rulesIn (set m k w) ≡ rulesIn m
 unfolding rulesIn
 same-rules m k w h =
     mapN-within (ruleFrom (set m k w)) (ruleFrom m) 0 16 (replicate 16 noState)
     (λ j x l g. ap₂ stateIn (getD-set-other m k (2 * j) w 0 (λ p. omega arith)) (getD-set-other m k (2 * j + 1) w 0 (λ p. omega arith)))
 
 -- a rule's two words
-pub stores : (m : List ℕ) (r a b : ℕ) (st : RuleState) → length m ≡ 34 → r < 16 → stateIn a b ≡ st → Stores m r st (set (set m (2 * r) a) (2 * r + 1) b)
+pub stores : (m : List ℕ) (r a b : ℕ) (st : RuleState) → length m ≡ memoryLength → r < 16 → stateIn a b ≡ st → Stores m r st (set (set m (2 * r) a) (2 * r + 1) b)
 stores m r a b st l h e = record {
   long = length-set (set m (2 * r) a) (2 * r + 1) b ∙ length-set m (2 * r) a ∙ l;
   rules = sym (set-rule m after r h others) ∙ ap (set (rulesIn m) r) (this ∙ e);
@@ -61,18 +61,18 @@ pub upper : (below d w : ℕ) → below < 4294967296 → d < 65536 → w ≡ bel
 upper below d w l h e = omega arith
 
 -- the monitor's own two words
-pub settles : (m : List ℕ) (taken latest verdict mask dues : ℕ) → length m ≡ 34 → taken < 4294967296 → latest < 4294967296 → verdict < 256 → mask < 65536 → dues < 65536
-    → Holds (set (set m 32 (taken + 4294967296 * latest)) 33 (verdict + 65536 * mask + 4294967296 * dues))
+pub settles : (m : List ℕ) (taken latest verdict mask dues : ℕ) → length m ≡ memoryLength → taken < 4294967296 → latest < 4294967296 → verdict < 256 → mask < 65536 → dues < 65536
+    → Holds (set (set m progressAt (taken + 4294967296 * latest)) statusAt (verdict + 65536 * mask + 4294967296 * dues))
     (record { rules = rulesIn m; taken = taken; latest = latest; verdict = verdict; mask = mask; dues = dues })
 settles m taken latest verdict mask dues l ht hl hv hm hd =
     let a : ℕ = taken + 4294967296 * latest in
     let b : ℕ = verdict + 65536 * mask + 4294967296 * dues in
-    let e = same-rules (set m 32 a) 33 b (omega arith) ∙ same-rules m 32 a (omega arith) in
-    let ea : getD (set (set m 32 a) 33 b) 32 0 ≡ a = getD-set-other (set m 32 a) 33 32 b 0 (λ p. omega arith) ∙ getD-set-same m 32 a 0 (omega (arith, l)) in
-    let eb : getD (set (set m 32 a) 33 b) 33 0 ≡ b = getD-set-same (set m 32 a) 33 b 0 (omega (arith, l, length-set m 32 a)) in
-    let t : getD (set (set m 32 a) 33 b) 32 0 % 4294967296 ≡ taken = rw ea (omega arith) in
-    let s : getD (set (set m 32 a) 33 b) 32 0 / 4294967296 % 4294967296 ≡ latest = rw ea (omega arith) in
-    let v : getD (set (set m 32 a) 33 b) 33 0 % 256 ≡ verdict = rw eb (omega arith) in
-    let k : getD (set (set m 32 a) 33 b) 33 0 / 65536 % 65536 ≡ mask = rw eb (middle verdict mask dues b (omega arith) hm (omega arith)) in
-    let d : getD (set (set m 32 a) 33 b) 33 0 / 4294967296 % 65536 ≡ dues = rw eb (upper (verdict + 65536 * mask) dues b (omega arith) hd (omega arith)) in
-    record { long = length-set (set m 32 a) 33 b ∙ length-set m 32 a ∙ l; held = λ i. record { rules = e i; taken = t i; latest = s i; verdict = v i; mask = k i; dues = d i }; spare = eb }
+    let e = same-rules (set m progressAt a) statusAt b (omega arith) ∙ same-rules m progressAt a (omega arith) in
+    let ea : getD (set (set m progressAt a) statusAt b) progressAt 0 ≡ a = getD-set-other (set m progressAt a) statusAt progressAt b 0 (λ p. omega arith) ∙ getD-set-same m progressAt a 0 (omega (arith, l)) in
+    let eb : getD (set (set m progressAt a) statusAt b) statusAt 0 ≡ b = getD-set-same (set m progressAt a) statusAt b 0 (omega (arith, l, length-set m progressAt a)) in
+    let t : getD (set (set m progressAt a) statusAt b) progressAt 0 % 4294967296 ≡ taken = rw ea (omega arith) in
+    let s : getD (set (set m progressAt a) statusAt b) progressAt 0 / 4294967296 % 4294967296 ≡ latest = rw ea (omega arith) in
+    let v : getD (set (set m progressAt a) statusAt b) statusAt 0 % 256 ≡ verdict = rw eb (omega arith) in
+    let k : getD (set (set m progressAt a) statusAt b) statusAt 0 / 65536 % 65536 ≡ mask = rw eb (middle verdict mask dues b (omega arith) hm (omega arith)) in
+    let d : getD (set (set m progressAt a) statusAt b) statusAt 0 / 4294967296 % 65536 ≡ dues = rw eb (upper (verdict + 65536 * mask) dues b (omega arith) hd (omega arith)) in
+    record { long = length-set (set m progressAt a) statusAt b ∙ length-set m progressAt a ∙ l; held = λ i. record { rules = e i; taken = t i; latest = s i; verdict = v i; mask = k i; dues = d i }; spare = eb }

@@ -1,4 +1,4 @@
--- A monitor's 34 words, and what they hold (document 01, "The recogniser of a range"): "The monitor's state holds, for each rule, its fragment number, eight recogniser states, one count
+-- A monitor's words, and what they hold (document 01, "The recogniser of a range"): "The monitor's state holds, for each rule, its fragment number, eight recogniser states, one count
 -- and the end time of P." Words 2 r and 2 r + 1 are rule r's; the last two are the monitor's own. Every list of words holds some monitor.
 -- Assumes nothing.
 use mathlib.Core.Path.{_≡_}
@@ -8,6 +8,10 @@ use lib.ListN.{length, getD, set, replicate}
 use Rattle.step.specs.declared.RuleState.{RuleState}
 use Rattle.fragment.specs.Upto.{mapN}
 use Rattle.fragment.specs.Fragments.{zeros, digits}
+
+-- so many words: two of each of the sixteen rules, then the monitor's own two
+abbrev pub memoryLength : ℕ
+memoryLength = 34
 
 -- ---- a rule's two words
 
@@ -43,7 +47,13 @@ pub record Held : Type 0 where
   pub mask : ℕ
   pub dues : ℕ
 
--- in word 32 the number taken and the latest time; in word 33 the verdict, the mask and the dues
+-- its own two words: in one the number taken and the latest time; in the other the verdict, the mask and the dues
+abbrev pub progressAt : ℕ
+progressAt = 32
+
+abbrev pub statusAt : ℕ
+statusAt = 33
+
 abbrev pub takenIn : ℕ → ℕ
 takenIn word = word % 4294967296
 
@@ -63,27 +73,27 @@ duesIn word = word / 4294967296 % 65536
 abbrev pub heldBy : List ℕ → Held
 heldBy words = record {
   rules = rulesIn words;
-  taken = takenIn (getD words 32 0);
-  latest = latestIn (getD words 32 0);
-  verdict = verdictNumberIn (getD words 33 0);
-  mask = maskIn (getD words 33 0);
-  dues = duesIn (getD words 33 0);
+  taken = takenIn (getD words progressAt 0);
+  latest = latestIn (getD words progressAt 0);
+  verdict = verdictNumberIn (getD words statusAt 0);
+  mask = maskIn (getD words statusAt 0);
+  dues = duesIn (getD words statusAt 0);
 }
 
--- word 33 of a monitor whose bits 8 to 15 and 48 to 63 are 0: these bits hold nothing, and every other bit of the 34 words holds something
+-- the last word of a monitor whose bits 8 to 15 and 48 to 63 are 0: these bits hold nothing, and every other bit of the words holds something
 abbrev pub lastWord : Held → ℕ
 lastWord m = m .verdict + 65536 * m .mask + 4294967296 * m .dues
 
--- ---- the changes, of words that are 34, as their type says
+-- ---- the changes, of so many words as their type says
 
 -- rule r gets a state, and nothing else changes
 pub record Stores (before : List ℕ) (r : ℕ) (st : RuleState) (after : List ℕ) : Type 0 where
-  pub long : length after ≡ 34
+  pub long : length after ≡ memoryLength
   pub rules : rulesIn after ≡ set (rulesIn before) r st
-  pub rest : (i : ℕ) → 32 ≤ i → getD after i 0 ≡ getD before i 0
+  pub rest : (i : ℕ) → progressAt ≤ i → getD after i 0 ≡ getD before i 0
 
 -- the words hold this monitor, and the bits that hold nothing are 0
 pub record Holds (words : List ℕ) (m : Held) : Type 0 where
-  pub long : length words ≡ 34
+  pub long : length words ≡ memoryLength
   pub held : heldBy words ≡ m
-  pub spare : getD words 33 0 ≡ lastWord m
+  pub spare : getD words statusAt 0 ≡ lastWord m

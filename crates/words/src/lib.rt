@@ -1,11 +1,26 @@
-// The memory of a monitor: 34 words, which a caller lends and which are changed in place. For each rule "its fragment number, eight recogniser states, one count and the end time
+// The memory of a monitor: words, which a caller lends and which are changed in place. For each rule "its fragment number, eight recogniser states, one count and the end time
 // of P", beside them the name whose range counts, and then the number taken, the latest time, the verdict and its masks. A rule's state goes in and out by value. Every word is taken,
 // and a rule's number is reduced by a remainder, so that nothing is asked of either.
 ghost use mathlib.Core.Path.{_≡_};
 ghost use Prim.Native.Nat.{_%_, _/_};
 ghost use lib.ListN.{length, getD};
-ghost use Rattle.words.specs.Words.{stateIn, noState, rulesIn, heldBy, Stores, Holds};
+ghost use Rattle.words.specs.Words.{memoryLength, stateIn, noState, rulesIn, heldBy, Stores, Holds};
 use step::RuleState;
+
+// ---- the layout
+
+// Each rule's two words, rule r's from RULE r on;
+const RULE: usize = 2;
+
+// then the number taken and the latest time;
+const PROGRESS: usize = 16 * RULE;
+
+// then the verdict and its masks.
+const STATUS: usize = PROGRESS + 1;
+
+pub const LENGTH: usize = STATUS + 1;
+
+pub type Memory = [u64; LENGTH];
 
 // ---- a rule's two words
 
@@ -31,26 +46,26 @@ fn state_in(states: u64, place: u64) -> RuleState
 }
 
 // The state of rule r.
-pub fn load(m: &[u64; 34], r: usize) -> RuleState
+pub fn load(m: &Memory, r: usize) -> RuleState
     ensures { λ st. ⌜ st ≡ getD (rulesIn (now (m .entry))) (r % 16) noState ⌝ }
 {
-    let k = 2 * (r % 16);
+    let k = RULE * (r % 16);
     state_in(m[k], m[k + 1])
 }
 
 // The end time of P of rule r.
-pub fn end_of(m: &[u64; 34], r: usize) -> u32
+pub fn end_of(m: &Memory, r: usize) -> u32
     ensures { λ e. ⌜ e ≡ getD (rulesIn (now (m .entry))) (r % 16) noState .end ⌝ }
 {
-    let k = 2 * (r % 16);
+    let k = RULE * (r % 16);
     (m[k + 1] / 4294967296 % 4294967296) as u32
 }
 
 // Rule r gets a state.
-pub fn store(m: &mut [u64; 34], r: usize, st: RuleState)
-    ensures { λ _. ⌜ (length (now (m .entry)) ≡ 34 → Stores (now (m .entry)) (r % 16) st (now (m .exit))) ⌝ }
+pub fn store(m: &mut Memory, r: usize, st: RuleState)
+    ensures { λ _. ⌜ (length (now (m .entry)) ≡ memoryLength → Stores (now (m .entry)) (r % 16) st (now (m .exit))) ⌝ }
 {
-    let k = 2 * (r % 16);
+    let k = RULE * (r % 16);
     let x = st.states;
     m[k] = fragment::packed(x);
     m[k + 1] = place_word(st.fragment, st.current, st.count, st.end);
@@ -59,44 +74,44 @@ pub fn store(m: &mut [u64; 34], r: usize, st: RuleState)
 // ---- the monitor's own two words
 
 // The number taken.
-pub fn taken(m: &[u64; 34]) -> u32
+pub fn taken(m: &Memory) -> u32
     ensures { λ r. ⌜ r ≡ heldBy (now (m .entry)) .taken ⌝ }
 {
-    (m[32] % 4294967296) as u32
+    (m[PROGRESS] % 4294967296) as u32
 }
 
 // The latest time.
-pub fn latest(m: &[u64; 34]) -> u32
+pub fn latest(m: &Memory) -> u32
     ensures { λ r. ⌜ r ≡ heldBy (now (m .entry)) .latest ⌝ }
 {
-    (m[32] / 4294967296 % 4294967296) as u32
+    (m[PROGRESS] / 4294967296 % 4294967296) as u32
 }
 
 // The verdict: 0 whole, 1 open, 2 broken; other numbers are in no monitor that these calls make.
-pub fn verdict(m: &[u64; 34]) -> u8
+pub fn verdict(m: &Memory) -> u8
     ensures { λ r. ⌜ r ≡ heldBy (now (m .entry)) .verdict ⌝ }
 {
-    (m[33] % 256) as u8
+    (m[STATUS] % 256) as u8
 }
 
 // The mask of the open rules, or of those that broke.
-pub fn mask(m: &[u64; 34]) -> u16
+pub fn mask(m: &Memory) -> u16
     ensures { λ r. ⌜ r ≡ heldBy (now (m .entry)) .mask ⌝ }
 {
-    (m[33] / 65536 % 65536) as u16
+    (m[STATUS] / 65536 % 65536) as u16
 }
 
 // The mask of the rules whose deadline runs.
-pub fn dues(m: &[u64; 34]) -> u16
+pub fn dues(m: &Memory) -> u16
     ensures { λ r. ⌜ r ≡ heldBy (now (m .entry)) .dues ⌝ }
 {
-    (m[33] / 4294967296 % 65536) as u16
+    (m[STATUS] / 4294967296 % 65536) as u16
 }
 
 // All but the rules' states.
-pub fn settle(m: &mut [u64; 34], taken: u32, latest: u32, verdict: u8, mask: u16, dues: u16)
-    ensures { λ _. ⌜ (length (now (m .entry)) ≡ 34 → Holds (now (m .exit)) (record { rules = rulesIn (now (m .entry)); taken = taken; latest = latest; verdict = verdict; mask = mask; dues = dues })) ⌝ }
+pub fn settle(m: &mut Memory, taken: u32, latest: u32, verdict: u8, mask: u16, dues: u16)
+    ensures { λ _. ⌜ (length (now (m .entry)) ≡ memoryLength → Holds (now (m .exit)) (record { rules = rulesIn (now (m .entry)); taken = taken; latest = latest; verdict = verdict; mask = mask; dues = dues })) ⌝ }
 {
-    m[32] = taken as u64 + 4294967296 * (latest as u64);
-    m[33] = verdict as u64 + 65536 * (mask as u64) + 4294967296 * (dues as u64);
+    m[PROGRESS] = taken as u64 + 4294967296 * (latest as u64);
+    m[STATUS] = verdict as u64 + 65536 * (mask as u64) + 4294967296 * (dues as u64);
 }

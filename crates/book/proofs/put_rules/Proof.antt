@@ -5,6 +5,7 @@ use Prim.Native.Nat.{ℕ, _+_, _-_, _≤_}
 use native.Mathlib.Omega.{arith}
 use lib.ListN.{getD, set}
 use Rattle.tables.specs.Words.{timeIn, roundIn}
+use Rattle.tables.specs.Cells.{limitAt}
 use Rattle.book.specs.Tables.{inTurn, putFragment, putRule}
 use Rattle.book.proofs.Steps.{all-made, turn-more}
 use borrow.Author.Needs.{needs}
@@ -12,7 +13,7 @@ use Rattle.book.proofs.put_rules.Statement.{statement}
 use Rattle.book.proofs.put_rules.Tie as tie
 
 one : (heads fragments ranges : List ℕ) (r : ℕ) (table : List ℕ) {table′ : List ℕ} {time : ℕ} → time ≡ timeIn (getD heads r 0)
-    → table′ ≡ inTurn (putFragment fragments ranges (getD heads r 0) r) (roundIn (getD heads r 0)) (set table (64 + r) time) → table′ ≡ putRule heads fragments ranges table r
+    → table′ ≡ inTurn (putFragment fragments ranges (getD heads r 0) r) (roundIn (getD heads r 0)) (set table (limitAt r) time) → table′ ≡ putRule heads fragments ranges table r
 unfolding putRule
 one heads fragments ranges r table et e = e ∙ rw et
 

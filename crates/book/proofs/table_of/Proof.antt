@@ -5,6 +5,7 @@ use Prim.Native.Nat.{ℕ}
 use native.Mathlib.Omega.{arith}
 use lib.ListN.{replicate}
 use Rattle.tables.specs.Words.{cap}
+use Rattle.tables.specs.Cells.{tableLength}
 use Rattle.tables.proofs.Bounds.{cap-small}
 use Rattle.book.specs.Tables.{stored, inTurn, nameTable, ruleTable, maskOf, putRule, tableOf}
 use borrow.Author.Needs.{needs}
@@ -12,7 +13,7 @@ use Rattle.book.proofs.table_of.Statement.{statement}
 use Rattle.book.proofs.table_of.Tie as tie
 
 made : (heads fragments ranges : List ℕ) (count : ℕ) {n : ℕ} {names sets masks table : List ℕ} → n ≡ cap 16 count → names ≡ nameTable fragments ranges → sets ≡ ruleTable heads names
-    → masks ≡ stored (λ m. maskOf sets m n) 64 (replicate 1104 0) → table ≡ inTurn (putRule heads fragments ranges) n masks → table ≡ tableOf heads fragments ranges count
+    → masks ≡ stored (λ m. maskOf sets m n) 64 (replicate tableLength 0) → table ≡ inTurn (putRule heads fragments ranges) n masks → table ≡ tableOf heads fragments ranges count
 unfolding tableOf
 made heads fragments ranges count en ea es em et = et ∙ rw (em, es, ea, en)
 

@@ -54,6 +54,7 @@ use Rattle.answers.proofs.Observation as O
 use Rattle.answers.proofs.Observation.Laws as O′
 use Rattle.value.proofs.Answered as S
 use Rattle.value.proofs.Answered.Laws as S′
+use Rattle.tables.specs.Cells.{tableLength}
 use Rattle.monitor.specs.Promise.{Observes}
 use Rattle.value.specs.Value.{byValue}
 use Rattle.session.proofs.observe as observe
@@ -74,10 +75,10 @@ Arg = Monitor × (Table × (Observation × Unit {0}))
 
 -- the book's table, as a row and as a place in the signature
 abbrev Words : RattleType
-Words = Array u64 1104
+Words = Array u64 tableLength
 
 abbrev WordsS : Slot 1
-WordsS = ArrayOf (plain (λ _. u64)) (λ _. tt) 1104
+WordsS = ArrayOf (plain (λ _. u64)) (λ _. tt) tableLength
 
 abbrev stayed : Stays (f.ended .signature .params) (f.ended .kept)
 stayed = (stay-none (λ _. T.the-row) yes, (stay-none-ref (0 ∷ []) tt WordsS yes, (stay-none (λ _. O.the-row) yes, tt)))

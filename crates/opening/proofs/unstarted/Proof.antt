@@ -6,7 +6,7 @@ use native.Mathlib.Omega.{arith}
 use lib.ListN.{length, getD, replicate}
 use Rattle.step.specs.declared.RuleState.{RuleState}
 use Rattle.fragment.specs.Upto.{mapN, mapN-more}
-use Rattle.words.specs.Words.{stateIn, noState, rulesIn}
+use Rattle.words.specs.Words.{memoryLength, progressAt, statusAt, stateIn, noState, rulesIn}
 use Rattle.opening.specs.Fresh.{freshState, freshHeld}
 use borrow.Author.Needs.{needs}
 use Rattle.opening.proofs.unstarted.Statement.{statement}
@@ -21,7 +21,7 @@ anew r st = freshState
 
 abbrev Inv-loop : tie.InvT-loop
 Inv-loop st m₀ r₀ m r =
-    (r ≤ 16) × (length m ≡ 34) × (rulesIn m ≡ mapN anew 0 r blank) × (getD m 32 0 ≡ 0) × (getD m 33 0 ≡ 0)
+    (r ≤ 16) × (length m ≡ memoryLength) × (rulesIn m ≡ mapN anew 0 r blank) × (getD m progressAt 0 ≡ 0) × (getD m statusAt 0 ≡ 0)
 
 abbrev μ-loop : tie.MeasureT-loop
 μ-loop st m₀ r₀ m r = 16 - r
@@ -48,8 +48,8 @@ loop-again c =
       omega (arith, c .before .before .loop-test .taken),
       st .long,
       (st .rules ∙ rw (e, turn .inv .2) (mapN-more anew (turn .r) blank noState h)),
-      (st .rest 32 (omega arith) ∙ turn .inv .3),
-      (st .rest 33 (omega arith) ∙ turn .inv .4),
+      (st .rest progressAt (omega arith) ∙ turn .inv .3),
+      (st .rest statusAt (omega arith) ∙ turn .inv .4),
     )
 
 returns : tie.Need-returns Inv-loop μ-loop

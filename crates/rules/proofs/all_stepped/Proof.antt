@@ -6,7 +6,7 @@ use native.Mathlib.Omega.{arith}
 use denote.Ref.{now}
 use lib.ListN.{length, getD}
 use Rattle.step.specs.Steps.{actOf}
-use Rattle.words.specs.Words.{noState, rulesIn}
+use Rattle.words.specs.Words.{memoryLength, noState, rulesIn}
 use Rattle.words.proofs.Laws.{sixteen}
 use Rattle.rules.proofs.Passing.{Stepping, stepping-start, stepping-more, stepping-end, noting-end}
 use borrow.Author.Needs.{needs}
@@ -15,7 +15,7 @@ use Rattle.rules.proofs.all_stepped.Tie as tie
 
 abbrev Inv-loop : tie.InvT-loop
 Inv-loop table m₀ noted who name time all₀ todo₀ m all todo =
-    length m₀ ≡ 34 → (length m ≡ 34) × Stepping table noted who name time (rulesIn m₀) (rulesIn m) todo all
+    length m₀ ≡ memoryLength → (length m ≡ memoryLength) × Stepping table noted who name time (rulesIn m₀) (rulesIn m) todo all
 
 abbrev μ-loop : tie.MeasureT-loop
 μ-loop table m₀ noted who name time all₀ todo₀ m all todo = todo

@@ -41,6 +41,7 @@ use denote.Triple.Clauses.{ensured, lasts}
 use denote.Triple.Table.{entered, cited}
 use denote.Triple.Walked.{says, Stays, stay-ref, stay-none, stay-none-ref, walkOf, AllGo, goes-none, goes-none-ref, goes-ref, Walks, ends-at, walked, walk-meets}
 use denote.Exit.{yes}
+use Rattle.tables.specs.Cells.{tableLength}
 use Rattle.monitor.specs.Promise.{Observes}
 use Rattle.value.specs.Value.{byValue}
 use Rattle.value.specs.declared.Monitor.{Monitor}
@@ -72,10 +73,10 @@ Arg = RefT Monitor × (Table × (Observation × Unit {0}))
 
 -- the book's table, as a row and as a place in the signature
 abbrev Words : RattleType
-Words = Array u64 1104
+Words = Array u64 tableLength
 
 abbrev WordsS : Slot 2
-WordsS = ArrayOf (plain (λ _. u64)) (λ _. tt) 1104
+WordsS = ArrayOf (plain (λ _. u64)) (λ _. tt) tableLength
 
 abbrev stayed : Stays (f.ended .signature .params) (f.ended .kept)
 stayed = (stay-ref (0 ∷ []) tt (plain (λ _. T.the-row)), (stay-none-ref (1 ∷ []) tt WordsS yes, (stay-none (λ _. O.the-row) yes, tt)))

@@ -7,7 +7,7 @@ use lib.ListN.{length, getD, set, replicate}
 use lib.Seq.{ext-getD}
 use Rattle.step.specs.declared.RuleState.{RuleState}
 use Rattle.fragment.specs.Upto.{mapN, mapN-more, length-mapN}
-use Rattle.words.specs.Words.{stateIn, noState, rulesIn}
+use Rattle.words.specs.Words.{memoryLength, stateIn, noState, rulesIn}
 use Rattle.words.proofs.Places.{getD-any, getD-mapN}
 use borrow.Author.Needs.{needs}
 use Rattle.value.proofs.rules_in_words.Statement.{statement}
@@ -30,7 +30,7 @@ given-more : (rules : List RuleState) (r : ℕ) (d : RuleState) → length rules
 given-more rules r d l h = ap (set (mapN (given rules) 0 r blank) r) (getD-any rules r d noState (omega (arith, l))) ∙ mapN-more (given rules) r blank noState h
 
 abbrev Inv-loop : tie.InvT-loop
-Inv-loop rules w₀ r₀ w r = (r ≤ 16) × (length w ≡ 34) × (rulesIn w ≡ mapN (given rules) 0 r blank)
+Inv-loop rules w₀ r₀ w r = (r ≤ 16) × (length w ≡ memoryLength) × (rulesIn w ≡ mapN (given rules) 0 r blank)
 
 abbrev μ-loop : tie.MeasureT-loop
 μ-loop rules w₀ r₀ w r = 16 - r
