@@ -6,12 +6,14 @@
 #include "hand.h"
 
 /* bench/hand.rs: the same calls as hand.h's, over memory that the host lends and does not read. */
+enum { HAND_RS_BOOK_WORDS = 2560, HAND_RS_MONITOR_WORDS = 34 };
+
 typedef struct hand_rs_book {
-    uint64_t words[2560];
+    uint64_t words[HAND_RS_BOOK_WORDS];
 } hand_rs_book;
 
 typedef struct hand_rs_monitor {
-    uint64_t words[34];
+    uint64_t words[HAND_RS_MONITOR_WORDS];
 } hand_rs_monitor;
 
 uint32_t hand_rs_run(const uint8_t *sheet, size_t sheet_length, const uint8_t *log, size_t log_length, uint32_t budget, uint8_t *out, size_t out_length);

@@ -23,7 +23,11 @@ extern "C" {
 uint32_t guard_library_version(void);
 uint32_t guard_sheet_version(void);
 
-/* The calls as the library has them: a book is 1,104 words, a monitor 34, and an answer's four fields are one number, lowest first. The number in their names is that of this
+/* What a host lends, in words of eight bytes. */
+#define GUARD_BOOK_WORDS 1104
+#define GUARD_MONITOR_WORDS 34
+
+/* The calls as the library has them: a book and a monitor are so many words, and an answer's four fields are one number, lowest first. The number in their names is that of this
  * layout, so that a header and a library of different layouts do not link. Use the functions below, whose names stay. */
 uint32_t guard2_run(const uint8_t *sheet, size_t sheet_length, const uint8_t *log, size_t log_length, uint32_t budget, uint8_t *out, size_t out_length);
 uint64_t guard2_open(const uint8_t *sheet, size_t sheet_length, uint64_t *book, uint64_t *monitor);
@@ -100,17 +104,17 @@ static inline uint32_t guard_run(const uint8_t *sheet, size_t sheet_length, cons
 }
 
 /* ---- a live session
- * The host lends the memory of one book (8,832 bytes, which guard_open writes and nothing else changes) and of one monitor for each session under it (272 bytes).
+ * The host lends the memory of one book (a guard_book, which guard_open writes and nothing else changes) and of one monitor for each session under it (a guard_monitor).
  * The words are the guard's own: a host stores and copies them, and does not read them. Every bit pattern is safe: for a book or a monitor that these calls did not make,
  * or a monitor that has observed under another book, the verdict is free, the call returns, and it writes nothing but the monitor. Sheet, book and monitor do not overlap.
  * Threads may share an opened book; a monitor belongs to one thread at a time. */
 
 typedef struct guard_book {
-    uint64_t words[1104];
+    uint64_t words[GUARD_BOOK_WORDS];
 } guard_book;
 
 typedef struct guard_monitor {
-    uint64_t words[34];
+    uint64_t words[GUARD_MONITOR_WORDS];
 } guard_monitor;
 
 /* answer and refusal as above; mask: bit r is rule r of the sheet, in file order from 0, for open and broken, else 0; place: k for broken, the field's offset for a refused

@@ -84,7 +84,8 @@ void writable(struct pages p);
 
 /* ---- sessions */
 
-/* The guard's own layout, known to these tests alone: the low half of word 32 is the taken count. */
+/* The guard's own layout, known to these tests alone: the low half of this word is the taken count. */
+#define PROGRESS_WORD 32
 void set_taken(guard_monitor *monitor, uint32_t taken);
 guard_answer observe(const guard_book *book, guard_monitor *monitor, struct observation o);
 

@@ -67,6 +67,25 @@ static void check_cut_off(void)
     tell("sheets cut off", R_BYTES + 1, wrong);
 }
 
+/* The library's book and monitor are as long as the header's: opening writes every word, whatever stood there. It writes no word past them, which pages.c sees. */
+static void check_lengths(void)
+{
+    static guard_book books[2];
+    guard_monitor monitors[2];
+    memset(books, 0, sizeof books);
+    memset(monitors, 0, sizeof monitors);
+    memset(&books[1], 0xFF, sizeof *books);
+    memset(&monitors[1], 0xFF, sizeof *monitors);
+    long count = 0, wrong = 0;
+    for (int i = 0; i < 2; i++)
+        guard_open(&books[i], &monitors[i], sheet_r, R_BYTES);
+    for (size_t i = 0; i < GUARD_BOOK_WORDS; i++, count++)
+        wrong += books[0].words[i] != books[1].words[i];
+    for (size_t i = 0; i < GUARD_MONITOR_WORDS; i++, count++)
+        wrong += monitors[0].words[i] != monitors[1].words[i];
+    tell("words that opening writes", count, wrong);
+}
+
 void check_openings(void)
 {
     long count = 0, wrong = 0;
@@ -84,4 +103,5 @@ void check_openings(void)
         wrong += wrong_sheet(longer, length, GUARD_LEFT_OVER, R_BYTES);
     tell("sheets by hand", count, wrong);
     check_cut_off();
+    check_lengths();
 }

@@ -4,7 +4,7 @@
 
 void set_taken(guard_monitor *monitor, uint32_t taken)
 {
-    monitor->words[32] = (monitor->words[32] & ~(uint64_t)ALL) | taken;
+    monitor->words[PROGRESS_WORD] = (monitor->words[PROGRESS_WORD] & ~(uint64_t)ALL) | taken;
 }
 
 guard_answer observe(const guard_book *book, guard_monitor *monitor, struct observation o)

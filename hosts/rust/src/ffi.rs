@@ -1,11 +1,17 @@
 //! The library's calls, as safe functions. Each call is total: it needs valid pointers to memory that does not overlap, and nothing else, and it writes only what is lent to it
 //! to be written. Rust's references give just that, and every bit pattern of the arrays is allowed.
 
+/// How many words a monitor has: `GUARD_MONITOR_WORDS` in `include/guard.h`.
+pub const MONITOR_WORDS: usize = 34;
+
 /// A monitor's words, which are the guard's own: a host stores and copies them, and does not read them.
-pub type Words = [u64; 34];
+pub type Words = [u64; MONITOR_WORDS];
+
+/// How many words a book has: `GUARD_BOOK_WORDS` there.
+pub(crate) const BOOK_WORDS: usize = 1104;
 
 /// A book's words, as `guard_book` in `include/guard.h` has them.
-pub(crate) type Tables = [u64; 1104];
+pub(crate) type Tables = [u64; BOOK_WORDS];
 
 extern "C" {
     fn guard_library_version() -> u32;
@@ -78,10 +84,16 @@ mod tests {
     use super::*;
     use std::vec;
 
+    /// A number that `include/guard.h` defines.
+    fn defined(name: &str) -> Option<usize> {
+        let mut lines = include_str!("../../../include/guard.h").lines();
+        lines.find_map(|line| line.strip_prefix("#define ")?.strip_prefix(name)?.trim().parse().ok())
+    }
+
     #[test]
-    fn the_sizes_of_the_header() {
-        assert_eq!(std::mem::size_of::<Tables>(), 8832);
-        assert_eq!(std::mem::size_of::<Words>(), 272);
+    fn the_lengths_of_the_header() {
+        assert_eq!(defined("GUARD_BOOK_WORDS"), Some(BOOK_WORDS));
+        assert_eq!(defined("GUARD_MONITOR_WORDS"), Some(MONITOR_WORDS));
     }
 
     /// "15 output under 12 bytes: it is unchanged and the call returns 15"; "Later bytes don't change."
@@ -105,9 +117,9 @@ mod tests {
     fn a_refused_sheet_changes_nothing() {
         let old: Tables = std::array::from_fn(|i| 0x9E37_79B9_7F4A_7C15_u64.wrapping_mul(i as u64 + 1));
         let mut tables = old;
-        let mut monitor: Words = [0x0F1E_2D3C_4B5A_6978; 34];
+        let mut monitor: Words = [0x0F1E_2D3C_4B5A_6978; MONITOR_WORDS];
         assert_eq!(open(b"LOC\x01\0", &mut tables, &mut monitor), 3 | 2 << 8, "refused, 2, at 0");
-        assert_eq!(monitor, [0x0F1E_2D3C_4B5A_6978; 34]);
+        assert_eq!(monitor, [0x0F1E_2D3C_4B5A_6978; MONITOR_WORDS]);
         assert_eq!(tables, old);
     }
 }

@@ -14,7 +14,7 @@ mod log;
 mod session;
 
 pub use answers::{Refusal, Verdict};
-pub use ffi::{library_version, sheet_version, Words};
+pub use ffi::{library_version, sheet_version, Words, MONITOR_WORDS};
 pub use log::{run, Outcome};
 pub use session::{Book, Session};
 

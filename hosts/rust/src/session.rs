@@ -1,7 +1,7 @@
 //! A book, and live sessions under it.
 
 use crate::answers::{answer_of, Refusal, Verdict};
-use crate::ffi::{self, Tables, Words};
+use crate::ffi::{self, Tables, Words, BOOK_WORDS, MONITOR_WORDS};
 use alloc::boxed::Box;
 use core::borrow::Borrow;
 use core::fmt;
@@ -24,8 +24,8 @@ impl Book {
     /// assert_eq!(Book::open(b"LOL").unwrap_err(), Refusal::Mark { place: 0 });
     /// ```
     pub fn open(sheet: &[u8]) -> Result<Book, Refusal> {
-        let mut tables = Box::new([0; 1104]);
-        let mut monitor = [0; 34];
+        let mut tables = Box::new([0; BOOK_WORDS]);
+        let mut monitor = [0; MONITOR_WORDS];
         let opened = answer(ffi::open(sheet, &mut tables, &mut monitor), true);
         opened.map(|_| Book { tables })
     }
@@ -48,7 +48,7 @@ fn answer(word: u64, of_sheet: bool) -> Result<Verdict, Refusal> {
     answer_of(word as u8, (word >> 8) as u8, (word >> 16) as u16, place, of_sheet.then_some(place))
 }
 
-/// One plugin's session: everything that was observed so far, in one monitor of 272 bytes.
+/// One plugin's session: everything that was observed so far, in one monitor of [`MONITOR_WORDS`](crate::MONITOR_WORDS) words.
 ///
 /// The book is borrowed, or shared: `B` is `&Book` from [`Book::session`], or for example an `Arc<Book>` where a session has to own its book.
 ///
@@ -91,7 +91,10 @@ pub struct Session<B: Borrow<Book>> {
 impl<B: Borrow<Book>> Session<B> {
     /// A fresh session: nothing taken, latest time 0, verdict whole.
     pub fn under(book: B) -> Session<B> {
-        let mut session = Session { book, monitor: [0; 34] };
+        let mut session = Session {
+            book,
+            monitor: [0; MONITOR_WORDS],
+        };
         session.restart();
         session
     }

@@ -1,5 +1,8 @@
 //! The cases that tests/host/cases.py takes from the reference: each log by the call, each list of observations by a session. The script says how its file is laid out.
 
+mod common;
+
+use common::with_taken;
 use guard::{run, Book, Refusal, Session, Verdict};
 use std::path::{Path, PathBuf};
 use std::process::Command;
@@ -59,11 +62,9 @@ fn numbers(answer: Result<Verdict, Refusal>) -> [u32; 4] {
     }
 }
 
-/// A session that has taken so many before: the low half of word 32, which is the guard's own and known to this test alone, is the count.
+/// A session that has taken so many before.
 fn late(book: &Book, before: u32) -> Session<&Book> {
-    let mut words = book.session().words();
-    words[32] = words[32] >> 32 << 32 | u64::from(before);
-    Session::resume(book, words)
+    Session::resume(book, with_taken(book.session().words(), before))
 }
 
 /// Plays the list and answers how many observations it had.

@@ -2,8 +2,8 @@
 
 mod common;
 
-use common::{N, R, T};
-use guard::{Book, Refusal, Session, Verdict};
+use common::{with_taken, N, R, T};
+use guard::{Book, Refusal, Session, Verdict, MONITOR_WORDS};
 use std::sync::Arc;
 
 const OPEN: Result<Verdict, Refusal> = Ok(Verdict::Open { mask: 1 });
@@ -72,15 +72,13 @@ fn a_refused_observation_changes_nothing() {
     assert_eq!(session.event(2, 5), Ok(Verdict::Whole));
 }
 
-/// "13, 4,294,967,295 already taken". That the low half of word 32 is the count is the guard's own, and known to this test alone.
+/// "13, 4,294,967,295 already taken".
 #[test]
 fn the_count_ends() {
     let book = Book::open(&T).unwrap();
     let mut session = book.session();
     session.event(0, 7).unwrap();
-    let mut words = session.words();
-    words[32] = words[32] >> 32 << 32 | u64::from(u32::MAX - 1);
-    let mut session = Session::resume(&book, words);
+    let mut session = Session::resume(&book, with_taken(session.words(), u32::MAX - 1));
     assert_eq!(session.taken(), u32::MAX - 1);
     assert_eq!(session.event(0, 8), OPEN);
     assert_eq!(session.taken(), u32::MAX);
@@ -176,7 +174,7 @@ fn words_of_no_session() {
     let mut state = 1u64;
     for round in 0..2000u32 {
         let mut words = Book::open(&T).unwrap().session().words();
-        for word in words.iter_mut().skip(round as usize % 34) {
+        for word in words.iter_mut().skip(round as usize % MONITOR_WORDS) {
             state = state.wrapping_mul(6364136223846793005).wrapping_add(1442695040888963407);
             *word = state.rotate_left(round);
         }
