@@ -1,7 +1,5 @@
 // What is observed and what it is answered (document 01, "Observing"), for every table and every monitor: an observation, an answer, and the verdict that the rules' masks give, which is
 // stored in the monitor's words. What one observation comes to, refusals too, is `specs/Observe`; crate `observing` has its code.
-ghost use Rattle.words.specs.Words.{rulesIn};
-ghost use Rattle.answers.specs.Observe.{judgedOf};
 ghost use Rattle.answers.specs.Leaving.{Judges};
 use rules::Masks;
 use words::Memory;
@@ -22,7 +20,7 @@ pub enum Answer {
 
 // "If rules break at it, the book stops: the answer is broken, k and a 16-bit mask of the rules broken at k." "Otherwise the answer is open with the mask of open rules, or whole if that mask is 0."
 pub fn judged(m: &mut Memory, p: Masks, k: u32, time: u32) -> Answer
-    ensures { λ r. ⌜ Judges (now (m .entry)) (judgedOf (record { rules = rulesIn (now (m .entry)); broken = p .broken; opens = p .opens; dues = p .dues }) k time) r (now (m .exit)) ⌝ }
+    ensures { λ r. ⌜ Judges (now (m .entry)) p k time r (now (m .exit)) ⌝ }
 {
     let broken = p.broken;
     let opens = p.opens;

@@ -33,7 +33,7 @@ use Rattle.book.specs.declared.Translation.{Translation}
 use Rattle.book.proofs.Translated.{translated}
 use Rattle.step.specs.declared.RuleState.{RuleState}
 use Rattle.step.specs.Shows.{untouched, running}
-use Rattle.words.specs.Words.{noState, Held, lastWord, Holds}
+use Rattle.words.specs.Words.{noState, Held, Clean}
 use Rattle.opening.specs.Fresh.{freshState, freshHeld}
 use Rattle.monitor.specs.Promise.{seen, valuesOf, verdictIn, noModel, modelAt, Represents, Tracks, Form, inWords, Follows, Observes, Freshes, Run, done, more, CodeAgreement}
 use Rattle.answers.specs.declared.Observation.{Observation}
@@ -85,20 +85,20 @@ module _ (S : Sheet) (formed : WellFormedSheet S) where
   }
 
 -- what the code's fresh monitor promises follows from what its words hold
-pub fresh-promise : (m : List ℕ) → Holds m freshHeld → Freshes inWords m
-fresh-promise m h = record {
-  fits = h .long;
-  holds = h .held;
-  blank = h .spare ∙ ap lastWord (sym (h .held));
+pub fresh-promise : {m : List ℕ} → Clean m freshHeld → Freshes inWords m
+fresh-promise h = record {
+  fits = h .holds .fits;
+  holds = h .holds .held;
+  blank = h .blank;
   follows = λ S b formed looks. record {
-    fits = h .long;
+    fits = h .holds .fits;
     tracks = record {
       formed = formed;
       looks = looks;
       falls = tt;
       model = freshMonitor (S .rules);
       follows = fresh-follows (S .rules);
-      represents = subst (Represents (S .rules) (freshMonitor (S .rules))) (sym (h .held)) (fresh-represents S formed);
+      represents = subst (Represents (S .rules) (freshMonitor (S .rules))) (sym (h .holds .held)) (fresh-represents S formed);
     };
   };
 }

@@ -201,17 +201,16 @@ module _ (S : Sheet) (k : Kept) (b : Book) (m : Held) (f : Tracks S k b m) (o : 
 -- ---- the code
 
 -- what the code's observing promises follows from what it leaves
-pub promise : (table before : List ℕ) (o : Observation) (a : Answer) (after : List ℕ) → Leaves before (observeOf table (heldBy before) o) a after → Observes inWords table before o a after
-promise table before o a after l = record {
-  fits = l .long;
-  holds = l .leaves;
+pub promise : {table before : List ℕ} {o : Observation} {a : Answer} {after : List ℕ} → Leaves table before o a after → Observes inWords table before o a after
+promise {before = before} {o} l = record {
+  fits = λ f. l .gives f .holds .fits;
+  holds = λ f i. record { monitor = l .gives f .holds .held i; answer = l .gives f .answer i };
   unchanged = l .unchanged;
   stopped = l .stopped;
-  blank = l .spare;
-  answers = λ b e S k f oracle right.
-      ap (λ (x : Observed). valuesOf (x .answer)) (l .leaves (f .fits)) ∙ rw (← e) (observe-answers S k b (heldBy before) (f .tracks) o oracle right);
+  blank = l .blank;
+  answers = λ b e S k f oracle right. ap valuesOf (l .gives (f .fits) .answer) ∙ rw (← e) (observe-answers S k b (heldBy before) (f .tracks) o oracle right);
   follows = λ b e S k f oracle right. record {
-    fits = l .long (f .fits);
-    tracks = subst (λ (x : Observed). Tracks S (judge oracle k (seen o) .kept) b (x .monitor)) (sym (l .leaves (f .fits))) (rw (← e) (observe-follows S k b (heldBy before) (f .tracks) o oracle right));
+    fits = l .gives (f .fits) .holds .fits;
+    tracks = rw (l .gives (f .fits) .holds .held, ← e) (observe-follows S k b (heldBy before) (f .tracks) o oracle right);
   };
 }

@@ -2,11 +2,11 @@
 -- Assumes nothing.
 use lib.ListN.{replicate}
 use Rattle.step.specs.declared.RuleState.{RuleState}
-use Rattle.words.specs.Words.{Held}
+use Rattle.words.specs.Words.{Held, nothingTaken}
 
 -- "1 fragment not begun", for each of the eight
 abbrev pub freshState : RuleState
 freshState = record { fragment = 0; current = 0; states = replicate 8 1; count = 0; end = 0 }
 
 unfoldable pub freshHeld : Held
-freshHeld = record { rules = replicate 16 freshState; taken = 0; latest = 0; verdict = 0; mask = 0; dues = 0 }
+freshHeld = nothingTaken (replicate 16 freshState)

@@ -1,11 +1,11 @@
 // A monitor's words before any observation. They do not depend on the book.
-ghost use Rattle.words.specs.Words.{Holds};
+ghost use Rattle.words.specs.Words.{Clean};
 ghost use Rattle.opening.specs.Fresh.{freshHeld};
 use words::Memory;
 
 // A monitor that has taken nothing: to no rule has anything come.
 pub fn unstarted() -> Memory
-    ensures { λ m. ⌜ Holds m freshHeld ⌝ }
+    ensures { λ m. ⌜ Clean m freshHeld ⌝ }
 {
     let st = step::RuleState {
         fragment: 0,

@@ -1,7 +1,7 @@
 -- The loops over the rules of a mask. `todo` is the mask of those that are left, so a rule has been seen if it is in the mask `who` and not in `todo`. The three masks of the word `all`
 -- speak of the rules seen; where they step, the states of those are new. When nothing is left, the rules seen are all of `who`, and a mask is settled by its members.
 -- Assumes nothing.
-use mathlib.Core.Path.{_≡_, refl, sym, ap, _∙_}
+use mathlib.Core.Path.{_≡_, refl, sym, subst, ap, _∙_}
 use mathlib.Core.Bool.{Bool, true, false, cond, not, _&&_, _||_, and-true, and-false, or-false, or-self, and-not-self}
 use mathlib.Core.List.{List}
 use Prim.Native.Nat.{ℕ, _+_, _*_, _/_, _%_, _^_, _<_}
@@ -21,8 +21,8 @@ use Rattle.step.specs.declared.RuleState.{RuleState}
 use Rattle.step.specs.declared.Stepped.{Stepped}
 use Rattle.fragment.specs.Upto.{mapN}
 use Rattle.step.specs.Steps.{actOf}
-use Rattle.words.specs.Words.{memoryLength, noState, rulesIn, Stores}
-use Rattle.words.proofs.Laws.{middle, upper}
+use Rattle.words.specs.Words.{noState, Held, heldBy, Holds, withRules}
+use Rattle.words.proofs.Laws.{middle, upper, sixteen}
 use Rattle.words.proofs.Places.{mapN-alike, mapN-same, set-mapN, getD-mapN}
 use Rattle.rules.specs.declared.Masks.{Masks}
 use Rattle.rules.specs.Pass.{Pass, Marks, Notes, Waits, Tells, Steps, StepsAll, Passes, brokenIn, openIn, dueIn, marksOf, stepsAt, waitedOf, ruleOf, isBroken, isOpen, isDue, stateAt, brokenAt, openAt, dueAt, passOf}
@@ -92,18 +92,6 @@ module _ (all r k : ℕ) (rule : r < 16) where
         due = with-rule (isDue k) (dueIn all) r (dueIn made) rule
             (ap dueIn f ∙ ap (λ (y : ℕ). y % 65536) (or-shr all x 32) ∙ or-mod (all / 4294967296) (x / 4294967296) 16 ∙ ap (bitOr (dueIn all)) fd);
       }
-
--- ---- one rule's new state is stored
-
-pub steps-stored : (x s : Stepped) {r : ℕ} {before after : List ℕ} → r < 16 → s ≡ x → (length before ≡ memoryLength → Stores before (r % 16) (s .state) after)
-    → Steps x r before (s .standing) after
-steps-stored x s {r} {before} h e st =
-    let own : r % 16 ≡ r = omega arith in
-    record {
-      stands = ap (λ (y : Stepped). y .standing) e;
-      long = λ l. st l .long;
-      moves = λ l. st l .rules ∙ ap (λ (i : ℕ). set (rulesIn before) i (s .state)) own ∙ ap (λ (y : Stepped). set (rulesIn before) r (y .state)) e;
-    }
 
 -- ---- the rules of a mask, one by one
 
@@ -187,53 +175,55 @@ module _ (noted who : ℕ) (stands : ℕ → ℕ) where
 
 -- ---- where they step
 
-module _ (table : List ℕ) (noted who name time : ℕ) (old : List RuleState) where
+module _ (table : List ℕ) (noted who name time : ℕ) (m : Held) where
   abbrev stands : ℕ → ℕ
-  stands k = actOf table k (getD old k noState) name time .standing
+  stands k = actOf table k (getD (m .rules) k noState) name time .standing
 
   abbrev seenState : ℕ → ℕ → RuleState → RuleState
   seenState todo k st = cond (seen noted who stands todo k) (actOf table k st name time .state) st
 
-  pub record Stepping (rules : List RuleState) (todo all : ℕ) : Type 0 where
-    pub sixteen : length old ≡ 16
-    pub states : rules ≡ mapN (seenState todo) 0 16 old
+  abbrev stepped : ℕ → Held
+  stepped todo = withRules m (mapN (seenState todo) 0 16 (m .rules))
+
+  pub record Stepping (words : List ℕ) (todo all : ℕ) : Type 0 where
+    pub many : length (m .rules) ≡ 16
+    pub holds : Holds words (stepped todo)
     pub notes : Noting noted who stands todo all
 
-  pub stepping-start : length old ≡ 16 → Stepping old who noted
-  stepping-start l = record {
-    sixteen = l;
-    states = sym (mapN-same (seenState who) 0 16 old (λ k st. ap (λ (t : Bool). cond t (actOf table k st name time .state) st) (and-not-self (member who k))));
+  pub stepping-start : {words : List ℕ} → Holds words m → Stepping words who noted
+  stepping-start {words} h = record {
+    many = subst (λ (x : Held). length (x .rules) ≡ 16) (h .held) (sixteen words);
+    holds = rw (mapN-same (seenState who) 0 16 (m .rules) (λ k st. ap (λ (t : Bool). cond t (actOf table k st name time .state) st) (and-not-self (member who k)))) h;
     notes = noting-start noted who stands;
   }
 
-  -- a rule that is left stands as it did
-  left-alone : {rules : List RuleState} {todo all r : ℕ} → Stepping rules todo all → member todo r ≡ true → r < 16 → getD rules r noState ≡ getD old r noState
-  left-alone {rules} {todo} {all} {r} p inside h =
-      let unseen : seen noted who stands todo (0 + r) ≡ false = rw (ap (member todo) (zero-add r) ∙ inside) (and-false (member who (0 + r))) in
-      ap (λ (l : List RuleState). getD l r noState) (p .states) ∙ getD-mapN (seenState todo) noState 0 16 old r h (omega (arith, p .sixteen))
-      ∙ ap (λ (t : Bool). cond t (actOf table (0 + r) (getD old r noState) name time .state) (getD old r noState)) unseen
+  -- one turn: rule r leaves `todo`. A rule that is left stands as it did
+  module _ {words : List ℕ} {todo todo′ all r : ℕ} (p : Stepping words todo all) (inside : member todo r ≡ true) (rule : r < 16) (left : Less todo r todo′) where
+    was : getD (stepped todo .rules) r noState ≡ getD (m .rules) r noState
+    was =
+        let unseen : seen noted who stands todo (0 + r) ≡ false = rw (ap (member todo) (zero-add r) ∙ inside) (and-false (member who (0 + r))) in
+        getD-mapN (seenState todo) noState 0 16 (m .rules) r rule (omega (arith, p .many)) ∙ rw unseen
 
-  pub stepping-more : {before after : List ℕ} {todo todo′ all made r s : ℕ} → Stepping (rulesIn before) todo all → member todo r ≡ true → r < 16 → Less todo r todo′
-      → Steps (actOf table r (getD (rulesIn before) r noState) name time) r before s after → length before ≡ memoryLength → Marks all r s made → Stepping (rulesIn after) todo′ made
-  stepping-more {before} {after} {todo} {todo′} {all} {made} {r} {s} p inside rule left st l w =
-      let was : getD (rulesIn before) r noState ≡ getD old r noState = left-alone p inside rule in
-      let within : (k : ℕ) → member todo k ≡ true → member who k ≡ true = p .notes .within in
-      let this : actOf table r (getD (rulesIn before) r noState) name time .state ≡ seenState todo′ r (getD old r noState) =
-      ap (λ (x : RuleState). actOf table r x name time .state) was
-      ∙ sym (ap (λ (t : Bool). cond t (actOf table r (getD old r noState) name time .state) (getD old r noState)) (seen-this noted who stands within inside left)) in
-      record {
-        sixteen = p .sixteen;
-        states = st .moves l ∙ ap (λ (rules : List RuleState). set rules r (actOf table r (getD (rulesIn before) r noState) name time .state)) (p .states)
-            ∙ ap (set (mapN (seenState todo) 0 16 old) r) this
-            ∙ set-mapN (seenState todo) (seenState todo′) 16 r old noState rule (omega (arith, p .sixteen))
-            (λ j x n. ap (λ (t : Bool). cond t (actOf table j x name time .state) x) (sym (seen-other noted who stands within inside left j n)));
-        notes = noting-more noted who stands (p .notes) inside rule left (st .stands ∙ ap (λ (x : RuleState). actOf table r x name time .standing) was) w;
-      }
+    this : actOf table r (getD (m .rules) r noState) name time .state ≡ seenState todo′ r (getD (m .rules) r noState)
+    this = rw (seen-this noted who stands (p .notes .within) inside left)
 
-  pub stepping-end : {rules : List RuleState} {todo all : ℕ} → Stepping rules todo all → todo ≡ 0 → rules ≡ mapN (stepsAt table who name time) 0 16 old
-  stepping-end {rules} {todo} p e =
-      p .states
-      ∙ mapN-alike (seenState todo) (stepsAt table who name time) 0 16 old (λ k st h. ap (λ (t : Bool). cond t (actOf table k st name time .state) st) (all-seen noted who stands e k))
+    pub stepping-more : {after : List ℕ} {made s : ℕ} → ((m′ : Held) → Holds words m′ → Steps (actOf table r (getD (m′ .rules) r noState) name time) r m′ s after) → Marks all r s made → Stepping after todo′ made
+    stepping-more st w = let t = rw was at (st _ (p .holds)) in record {
+      many = p .many;
+      holds = rw (
+        this,
+        set-mapN (seenState todo) (seenState todo′) 16 r (m .rules) noState rule (omega (arith, p .many))
+            (λ j x n. ap (λ (t : Bool). cond t (actOf table j x name time .state) x) (sym (seen-other noted who stands (p .notes .within) inside left j n))),
+      ) at (t .holds);
+      notes = noting-more noted who stands (p .notes) inside rule left (t .stands) w;
+    }
+
+  pub stepping-end : {words : List ℕ} {todo all : ℕ} → Stepping words todo all → todo ≡ 0 → StepsAll table noted who name time m all words
+  stepping-end {todo = todo} p e = record {
+    notes = noting-end noted who stands (p .notes) e;
+    holds = rw (mapN-alike (seenState todo) (stepsAt table who name time) 0 16 (m .rules) (λ k st h. ap (λ (t : Bool). cond t (actOf table k st name time .state) st) (all-seen noted who stands e k)))
+        at (p .holds);
+  }
 
 -- ---- one observation
 
@@ -255,59 +245,37 @@ state-either true d x st k = refl
 state-either false true x st k = refl
 state-either false false x st k = refl
 
-made : {rules rules′ : List RuleState} {br op du br′ op′ du′ : ℕ} → rules ≡ rules′ → br ≡ br′ → op ≡ op′ → du ≡ du′
-    → _≡_ {A = Pass} (record { rules = rules; broken = br; opens = op; dues = du }) (record { rules = rules′; broken = br′; opens = op′; dues = du′ })
-made a b c d = rw (a, b, c, d)
-
-module _ (table : List ℕ) (concerned opens dues name time : ℕ) (before after : List ℕ) where
-  abbrev old : List RuleState
-  old = rulesIn before
-
-  abbrev acted : ℕ → Stepped
-  acted k = actOf table k (getD old k noState) name time
-
-  abbrev waits : ℕ → Stepped
-  waits k = waitedOf table k (getD old k noState) time
-
-  pub looks : {who touched left held all : ℕ} {p : Masks} → Without dues concerned who → Waits table who time old held → StepsAll table held concerned name time before all after
-      → Union concerned dues touched → Without opens touched left → Tells all left p → Passes table concerned opens dues name time before p after
-  unfolding passOf ruleOf
-  looks {who} {touched} {left} {held} {all} {p} w h s u l t =
-      let members : (f : ℕ → ℕ) (P : ℕ → Bool) → ((k : ℕ) → member (f held) k ≡ (member (f 0) k || member who k && P (waits k .standing)))
-      → ((k : ℕ) → member (f all) k ≡ (member (f held) k || member concerned k && P (acted k .standing))) → f 0 ≡ 0
-      → (k : ℕ) → member (f all) k ≡ ((false || (member dues k && not (member concerned k)) && P (waits k .standing)) || member concerned k && P (acted k .standing)) =
-      λ f P x y z k. y k ∙ ap (λ (t : Bool). t || member concerned k && P (acted k .standing))
-      (x k ∙ ap (λ (t : Bool). t || member who k && P (waits k .standing)) (ap (λ (m : ℕ). member m k) z ∙ member-empty k)
-      ∙ ap (λ (t : Bool). false || t && P (waits k .standing)) (w .members k)) in
-      record {
-        long = s .long;
-        passes = λ n.
-            let notes = s .notes n in
-            made (s .moves n ∙ mapN-alike (stepsAt table concerned name time) (stateAt table concerned opens dues old name time) 0 16 old
-            (λ k st m. state-either (member concerned k) (member dues k) (actOf table k st name time) st _))
-            (t .broke ∙ mask-is 16 (brokenIn all) (brokenAt table concerned opens dues old name time) (omega arith)
-            (λ k m. members brokenIn isBroken (h .broke) (notes .broke) refl k ∙ either (member concerned k) (member dues k) (acted k) (waits k) isBroken))
-            (mask-is 16 (p .opens) (openAt table concerned opens dues old name time) (t .opened<)
-            (λ k m. t .opened .members k ∙ ap (λ (x : Bool). x || member (openIn all) k) (l .members k ∙ ap (λ (x : Bool). member opens k && not x) (u .members k))
-            ∙ ap (λ (x : Bool). member opens k && not (member concerned k || member dues k) || x) (members openIn isOpen (h .opened) (notes .opened) refl k)
-            ∙ opens-either (member concerned k) (member dues k) (member opens k) (acted k) (waits k) isOpen))
-            (t .due ∙ mask-is 16 (dueIn all) (dueAt table concerned opens dues old name time) (omega arith)
-            (λ k m. members dueIn isDue (h .due) (notes .due) refl k ∙ either (member concerned k) (member dues k) (acted k) (waits k) isDue));
-      }
+pub looks : {table : List ℕ} {concerned opens dues name time : ℕ} {before after : List ℕ} {m : Held} {who touched left held all : ℕ} {p : Masks} → Holds before m
+    → Without dues concerned who → Waits table who time (heldBy before .rules) held → StepsAll table held concerned name time m all after
+    → Union concerned dues touched → Without opens touched left → Tells all left p → Passes (passOf table concerned opens dues (m .rules) name time) m p after
+unfolding passOf ruleOf
+looks {table} {concerned} {opens} {dues} {name} {time} {m = m} {who} {held = held} {all} {p} holds w waited s u l t =
+    let acted : ℕ → Stepped = λ k. actOf table k (getD (m .rules) k noState) name time in
+    let waits : ℕ → Stepped = λ k. waitedOf table k (getD (m .rules) k noState) time in
+    let h = subst (λ (x : Held). Waits table who time (x .rules) held) (holds .held) waited in
+    let members : (f : ℕ → ℕ) (P : ℕ → Bool) → ((k : ℕ) → member (f held) k ≡ (member (f 0) k || member who k && P (waits k .standing)))
+    → ((k : ℕ) → member (f all) k ≡ (member (f held) k || member concerned k && P (acted k .standing))) → f 0 ≡ 0
+    → (k : ℕ) → member (f all) k ≡ ((false || (member dues k && not (member concerned k)) && P (waits k .standing)) || member concerned k && P (acted k .standing)) =
+    λ f P x y z k. y k ∙ ap (λ (t : Bool). t || member concerned k && P (acted k .standing))
+    (x k ∙ ap (λ (t : Bool). t || member who k && P (waits k .standing)) (ap (λ (m : ℕ). member m k) z ∙ member-empty k)
+    ∙ ap (λ (t : Bool). false || t && P (waits k .standing)) (w .members k)) in
+    let broke = t .broke ∙ mask-is 16 (brokenIn all) (brokenAt table concerned opens dues (m .rules) name time) (omega arith)
+    (λ k n. members brokenIn isBroken (h .broke) (s .notes .broke) refl k ∙ either (member concerned k) (member dues k) (acted k) (waits k) isBroken) in
+    let opened = mask-is 16 (p .opens) (openAt table concerned opens dues (m .rules) name time) (t .opened<)
+    (λ k n. t .opened .members k ∙ ap (λ (x : Bool). x || member (openIn all) k) (l .members k ∙ ap (λ (x : Bool). member opens k && not x) (u .members k))
+    ∙ ap (λ (x : Bool). member opens k && not (member concerned k || member dues k) || x) (members openIn isOpen (h .opened) (s .notes .opened) refl k)
+    ∙ opens-either (member concerned k) (member dues k) (member opens k) (acted k) (waits k) isOpen) in
+    let due = t .due ∙ mask-is 16 (dueIn all) (dueAt table concerned opens dues (m .rules) name time) (omega arith)
+    (λ k n. members dueIn isDue (h .due) (s .notes .due) refl k ∙ either (member concerned k) (member dues k) (acted k) (waits k) isDue) in
+    record {
+      masks = rw (broke, opened, due);
+      holds = rw (mapN-alike (stepsAt table concerned name time) (stateAt table concerned opens dues (m .rules) name time) 0 16 (m .rules)
+          (λ k st n. state-either (member concerned k) (member dues k) (actOf table k st name time) st _)) at (s .holds);
+    }
 
 -- no rule has the name: none steps
-pub none-step : (table : List ℕ) (held name time : ℕ) (before : List ℕ) → StepsAll table held 0 name time before held before
-none-step table held name time before =
-    let stands : ℕ → ℕ = λ k. actOf table k (getD (rulesIn before) k noState) name time .standing in
-    record {
-      long = λ l. l;
-      moves = λ l. sym (mapN-same (stepsAt table 0 name time) 0 16 (rulesIn before) (λ k st. ap (λ (t : Bool). cond t (actOf table k st name time .state) st) (member-empty k)));
-      notes = λ l. record {
-        broke = λ k. sym (ap (λ (t : Bool). member (brokenIn held) k || t && isBroken (stands k)) (member-empty k) ∙ or-false (member (brokenIn held) k));
-        opened = λ k. sym (ap (λ (t : Bool). member (openIn held) k || t && isOpen (stands k)) (member-empty k) ∙ or-false (member (openIn held) k));
-        due = λ k. sym (ap (λ (t : Bool). member (dueIn held) k || t && isDue (stands k)) (member-empty k) ∙ or-false (member (dueIn held) k));
-      };
-    }
+pub none-step : (table : List ℕ) (held name time : ℕ) {words : List ℕ} {m : Held} → Holds words m → StepsAll table held 0 name time m held words
+none-step table held name time {m = m} h = stepping-end table held 0 name time m (stepping-start table held 0 name time m h) refl
 
 pub all-without-none : (a : ℕ) → Without a 0 a
 all-without-none a = record { members = λ k. sym (ap (λ (t : Bool). member a k && not t) (member-empty k) ∙ and-true (member a k)) }

@@ -5,11 +5,11 @@ use mathlib.Core.Bool.{Bool, cond, _&&_, _||_}
 use mathlib.Core.List.{List}
 use Prim.Native.Nat.{ℕ, _+_, _*_, _/_, _%_, _^_, _<_}
 use lib.Dec.{eqb}
-use lib.ListN.{length, getD, set}
+use lib.ListN.{getD, set}
 use Rattle.names.specs.Names.{member}
 use Rattle.step.specs.declared.RuleState.{RuleState}
 use Rattle.step.specs.declared.Stepped.{Stepped}
-use Rattle.words.specs.Words.{memoryLength, noState, rulesIn}
+use Rattle.words.specs.Words.{noState, Held, Holds, withRules}
 use Rattle.rules.specs.declared.Masks.{Masks}
 use Rattle.masks.specs.Masks.{maskN, Union, With}
 use Rattle.fragment.specs.Upto.{mapN}
@@ -109,24 +109,26 @@ pub record Tells (all left : ℕ) (p : Masks) : Type 0 where
   pub opened< : p .opens < 2 ^ 16
   pub due : p .dues ≡ dueIn all
 
--- ---- in a monitor's words, of which there are so many as their type says
+-- ---- in the words of a monitor m
 
 -- rule r becomes s: how it stands, and the words that it leaves
-pub record Steps (s : Stepped) (r : ℕ) (before : List ℕ) (standing : ℕ) (after : List ℕ) : Type 0 where
+pub record Steps (s : Stepped) (r : ℕ) (m : Held) (standing : ℕ) (after : List ℕ) : Type 0 where
   pub stands : standing ≡ s .standing
-  pub long : length before ≡ memoryLength → length after ≡ memoryLength
-  pub moves : length before ≡ memoryLength → rulesIn after ≡ set (rulesIn before) r (s .state)
+  pub holds : Holds after (withRules m (set (m .rules) r (s .state)))
 
 -- the rules of `who` step
 abbrev pub stepsAt : List ℕ → ℕ → ℕ → ℕ → ℕ → RuleState → RuleState
 stepsAt table who name time k st = cond (member who k) (actOf table k st name time .state) st
 
-pub record StepsAll (table : List ℕ) (noted who name time : ℕ) (before : List ℕ) (all : ℕ) (after : List ℕ) : Type 0 where
-  pub long : length before ≡ memoryLength → length after ≡ memoryLength
-  pub moves : length before ≡ memoryLength → rulesIn after ≡ mapN (stepsAt table who name time) 0 16 (rulesIn before)
-  pub notes : length before ≡ memoryLength → Notes noted who (λ k. actOf table k (getD (rulesIn before) k noState) name time .standing) all
+pub record StepsAll (table : List ℕ) (noted who name time : ℕ) (m : Held) (all : ℕ) (after : List ℕ) : Type 0 where
+  pub notes : Notes noted who (λ k. actOf table k (getD (m .rules) k noState) name time .standing) all
+  pub holds : Holds after (withRules m (mapN (stepsAt table who name time) 0 16 (m .rules)))
+
+-- what is made of the rules, and the masks that are told
+abbrev pub passed : List RuleState → Masks → Pass
+passed rules p = record { rules = rules; broken = p .broken; opens = p .opens; dues = p .dues }
 
 -- all of them
-pub record Passes (table : List ℕ) (concerned opens dues name time : ℕ) (before : List ℕ) (p : Masks) (after : List ℕ) : Type 0 where
-  pub long : length before ≡ memoryLength → length after ≡ memoryLength
-  pub passes : length before ≡ memoryLength → record { rules = rulesIn after; broken = p .broken; opens = p .opens; dues = p .dues } ≡ passOf table concerned opens dues (rulesIn before) name time
+pub record Passes (pass : Pass) (m : Held) (p : Masks) (after : List ℕ) : Type 0 where
+  pub masks : passed (pass .rules) p ≡ pass
+  pub holds : Holds after (withRules m (pass .rules))

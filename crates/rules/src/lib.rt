@@ -4,8 +4,8 @@ ghost use mathlib.Core.Path.{_≡_};
 ghost use Prim.Native.Nat.{ℕ, _<_};
 ghost use lib.ListN.{getD};
 ghost use Rattle.step.specs.Steps.{actOf};
-ghost use Rattle.words.specs.Words.{noState, rulesIn};
-ghost use Rattle.rules.specs.Pass.{marksOf, waitedOf, Marks, Steps, Waits, StepsAll, Tells, Passes};
+ghost use Rattle.words.specs.Words.{noState, Held, heldBy, Holds};
+ghost use Rattle.rules.specs.Pass.{marksOf, waitedOf, passOf, Marks, Steps, Waits, StepsAll, Tells, Passes};
 use tables::Table;
 use words::Memory;
 
@@ -41,7 +41,7 @@ fn marked(all: u64, r: usize, standing: u8) -> u64
 // Rule r, which has the name, steps; how it then stands.
 fn stepped(table: &Table, m: &mut Memory, r: usize, name: u8, time: u32) -> u8
     requires { ⌜ r < 16 ⌝ }
-    ensures { λ k. ⌜ Steps (actOf (now (table .entry)) r (getD (rulesIn (now (m .entry))) r noState) name time) r (now (m .entry)) k (now (m .exit)) ⌝ }
+    ensures { λ k. ⌜ ((was : Held) → Holds (now (m .entry)) was → Steps (actOf (now (table .entry)) r (getD (was .rules) r noState) name time) r was k (now (m .exit))) ⌝ }
 {
     let was = words::load(m, r);
     let s = step::act(table, r, was, name, time);
@@ -53,7 +53,7 @@ fn stepped(table: &Table, m: &mut Memory, r: usize, name: u8, time: u32) -> u8
 // How rule r, whose deadline runs, stands at a time. Its state stays.
 fn waited(table: &Table, m: &Memory, r: usize, time: u32) -> u8
     requires { ⌜ r < 16 ⌝ }
-    ensures { λ k. ⌜ k ≡ waitedOf (now (table .entry)) r (getD (rulesIn (now (m .entry))) r noState) time .standing ⌝ }
+    ensures { λ k. ⌜ k ≡ waitedOf (now (table .entry)) r (getD (heldBy (now (m .entry)) .rules) r noState) time .standing ⌝ }
 {
     let limit = tables::limit_in(table[tables::LIMITS + r]);
     deadline::due(limit, words::end_of(m, r), time)
@@ -63,7 +63,7 @@ fn waited(table: &Table, m: &Memory, r: usize, time: u32) -> u8
 
 // Each rule is held to its deadline.
 fn all_waited(table: &Table, m: &Memory, who: u16, time: u32) -> u64
-    ensures { λ all. ⌜ Waits (now (table .entry)) who time (rulesIn (now (m .entry))) all ⌝ }
+    ensures { λ all. ⌜ Waits (now (table .entry)) who time (heldBy (now (m .entry)) .rules) all ⌝ }
 {
     let mut all = 0u64;
     let mut todo = who;
@@ -77,7 +77,7 @@ fn all_waited(table: &Table, m: &Memory, who: u16, time: u32) -> u64
 
 // Each rule steps; its standing goes to those noted before.
 fn all_stepped(table: &Table, m: &mut Memory, noted: u64, who: u16, name: u8, time: u32) -> u64
-    ensures { λ all. ⌜ StepsAll (now (table .entry)) noted who name time (now (m .entry)) all (now (m .exit)) ⌝ }
+    ensures { λ all. ⌜ ((was : Held) → Holds (now (m .entry)) was → StepsAll (now (table .entry)) noted who name time was all (now (m .exit))) ⌝ }
 {
     let mut all = noted;
     let mut todo = who;
@@ -110,7 +110,7 @@ fn told(all: u64, left: u16) -> Masks
 
 // An observation that concerns no rule, a clock reading or an event on a name that no rule has: the rules whose deadline runs are held to it, and no rule's state changes.
 pub fn held(table: &Table, m: &Memory, opens: u16, dues: u16, time: u32) -> Masks
-    ensures { λ p. ⌜ ((name : ℕ) → Passes (now (table .entry)) 0 opens dues name time (now (m .entry)) p (now (m .entry))) ⌝ }
+    ensures { λ p. ⌜ ((name : ℕ) (was : Held) → Holds (now (m .entry)) was → Passes (passOf (now (table .entry)) 0 opens dues (was .rules) name time) was p (now (m .entry))) ⌝ }
 {
     let all = all_waited(table, m, dues, time);
     told(all, masks::without(opens, dues))
@@ -127,7 +127,7 @@ pub fn looked(
     name: u8,
     time: u32,
 ) -> Masks
-    ensures { λ p. ⌜ Passes (now (table .entry)) concerned opens dues name time (now (m .entry)) p (now (m .exit)) ⌝ }
+    ensures { λ p. ⌜ ((was : Held) → Holds (now (m .entry)) was → Passes (passOf (now (table .entry)) concerned opens dues (was .rules) name time) was p (now (m .exit))) ⌝ }
 {
     if concerned == 0 {
         return held(table, m, opens, dues, time);

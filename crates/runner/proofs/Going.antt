@@ -13,7 +13,7 @@ use lib.ListN.{length}
 use borrow.Author.Count.{below-more}
 use borrow.Author.Tests.{ne-eqb}
 use Rattle.pattern.specs.Judge.{allWhole, someOpen, brokenAt, timeOf, refusal}
-use Rattle.words.specs.Words.{memoryLength, Held, heldBy}
+use Rattle.words.specs.Words.{Held, heldBy, Fits}
 use Rattle.opening.specs.Fresh.{freshHeld}
 use Rattle.answers.specs.Observe.{Observed, refusedOf}
 use Rattle.answers.specs.Every.{Counted}
@@ -29,7 +29,7 @@ use Rattle.runner.specs.declared.Outcome.{Outcome}
 use Rattle.runner.specs.declared.Turned.{Turned}
 
 pub record Going (log m : List ℕ) (i : ℕ) : Type 0 where
-  pub fits : length m ≡ memoryLength
+  pub fits : Fits m
   pub runs : heldBy m .verdict ≡ 2 → ⊥
   pub taken : heldBy m .taken ≡ i
   pub latest : heldBy m .latest ≡ timeBefore log i

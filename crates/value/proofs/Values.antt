@@ -20,7 +20,7 @@ same-numbers a b = ap (λ (m : Held). record { rules = m .rules; taken = m .take
 
 -- words that hold a monitor which follows do so themselves, and the other way
 in-words : (S : Sheet) (k : Kept) (b : Book) (m : Monitor) (w : List ℕ) → Holds w (numbersOf m) → Follows byValue S k b m → Follows inWords S k b w
-in-words S k b m w h f = record { fits = h .long; tracks = subst (Tracks S k b) (sym (h .held)) (f .tracks) }
+in-words S k b m w h f = record { fits = h .fits; tracks = subst (Tracks S k b) (sym (h .held)) (f .tracks) }
 
 of-words : (S : Sheet) (k : Kept) (b : Book) (m : Monitor) (w : List ℕ) → numbersOf m ≡ heldBy w → Follows inWords S k b w → Follows byValue S k b m
 of-words S k b m w e f = record { fits = tt; tracks = subst (Tracks S k b) (sym e) (f .tracks) }
@@ -33,7 +33,7 @@ module _ {table before after : List ℕ} {m next : Monitor} {o : Observation} {a
   turns = record {
     fits = λ u. tt;
     holds = λ u.
-        ap (λ (x : Held). record { monitor = x; answer = a }) e ∙ p .holds (h .long) ∙ ap (λ (x : Held). observeOf table x o) (h .held);
+        ap (λ (x : Held). record { monitor = x; answer = a }) e ∙ p .holds (h .fits) ∙ ap (λ (x : Held). observeOf table x o) (h .held);
     unchanged = λ z. same (p .unchanged z);
     stopped = λ z. same (p .stopped (ap (λ (x : Held). x .verdict) (h .held) ∙ z));
     blank = λ u s z. tt;

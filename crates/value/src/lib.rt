@@ -1,8 +1,7 @@
 // The monitor as a value (document 01, "What to write where": "Per-rule state struct holding an array of eight recogniser states, passed and returned by value"), for a session that keeps
 // one. Its calls put it into words, make the calls of crate `monitor` there and take it out again, and promise the same.
 ghost use mathlib.Core.Path.{_≡_};
-ghost use lib.ListN.{length};
-ghost use Rattle.words.specs.Words.{memoryLength, heldBy, rulesIn, Holds};
+ghost use Rattle.words.specs.Words.{heldBy, Holds, nothingTaken};
 ghost use Rattle.monitor.specs.Promise.{Observes, Freshes, Says};
 ghost use Rattle.value.specs.Value.{numbersOf, byValue};
 use answers::Answer;
@@ -30,7 +29,7 @@ pub struct Answered {
 
 // Sixteen states in words, and nothing beside them.
 fn rules_in_words(rules: [RuleState; 16]) -> Memory
-    ensures { λ w. ⌜ (length w ≡ memoryLength) × (rulesIn w ≡ rules) ⌝ }
+    ensures { λ w. ⌜ Holds w (nothingTaken rules) ⌝ }
 {
     let mut w = [0u64; words::LENGTH];
     let mut r = 0usize;
@@ -54,7 +53,7 @@ fn in_words(m: Monitor) -> Memory
 
 // The sixteen states that words hold.
 fn rules_of(w: &Memory) -> [RuleState; 16]
-    ensures { λ rules. ⌜ rules ≡ rulesIn (now (w .entry)) ⌝ }
+    ensures { λ rules. ⌜ rules ≡ heldBy (now (w .entry)) .rules ⌝ }
 {
     let none = RuleState {
         fragment: 0,

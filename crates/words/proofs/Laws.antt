@@ -1,21 +1,21 @@
 -- What storing in a monitor's words does to the monitor that they hold: a rule's two words change that rule's state, and the last two words change none.
 -- Assumes nothing.
-use mathlib.Core.Path.{_≡_, sym, ap, ap₂, _∙_}
+use mathlib.Core.Path.{_≡_, refl, sym, ap, ap₂, _∙_}
 use mathlib.Core.List.{List}
 use Prim.Native.Nat.{ℕ, _+_, _*_, _%_, _/_, _<_, _≤_}
 use native.Mathlib.Omega.{arith}
 use lib.ListN.{length, getD, set, replicate, length-set}
 use lib.Seq.{getD-set-same, getD-set-other}
 use Rattle.step.specs.declared.RuleState.{RuleState}
-use Rattle.fragment.specs.Upto.{length-mapN}
-use Rattle.words.specs.Words.{memoryLength, progressAt, statusAt, stateIn, stateAt, noState, ruleFrom, rulesIn, Stores, Holds}
+use Rattle.fragment.specs.Upto.{mapN, mapN-more, length-mapN}
+use Rattle.words.specs.Words.{memoryLength, progressAt, statusAt, stateIn, stateAt, noState, ruleFrom, rulesIn, Held, Holds, Clean, withRules, nothingTaken, Stores}
 use Rattle.words.proofs.Places.{mapN-within, set-mapN, getD-mapN}
 
 -- ---- the rules
 
-pub sixteen : (m : List ℕ) → length (rulesIn m) ≡ 16
+pub sixteen : (words : List ℕ) → length (rulesIn words) ≡ 16
 unfolding rulesIn
-sixteen m = length-mapN (ruleFrom m) 0 16 (replicate 16 noState)
+sixteen words = length-mapN (ruleFrom words) 0 16 (replicate 16 noState)
 
 pub rule-at : (m : List ℕ) (r : ℕ) → r < 16 → getD (rulesIn m) r noState ≡ stateAt m r
 unfolding rulesIn
@@ -34,18 +34,23 @@ same-rules m k w h =
     (λ j x l g. ap₂ stateIn (getD-set-other m k (2 * j) w 0 (λ p. omega arith)) (getD-set-other m k (2 * j + 1) w 0 (λ p. omega arith)))
 
 -- a rule's two words
-pub stores : (m : List ℕ) (r a b : ℕ) (st : RuleState) → length m ≡ memoryLength → r < 16 → stateIn a b ≡ st → Stores m r st (set (set m (2 * r) a) (2 * r + 1) b)
-stores m r a b st l h e = record {
-  long = length-set (set m (2 * r) a) (2 * r + 1) b ∙ length-set m (2 * r) a ∙ l;
-  rules = sym (set-rule m after r h others) ∙ ap (set (rulesIn m) r) (this ∙ e);
-  rest = λ i g. getD-set-other (set m (2 * r) a) (2 * r + 1) i b 0 (λ p. omega arith) ∙ getD-set-other m (2 * r) i a 0 (λ p. omega arith);
+pub stores : (m : List ℕ) (r a b : ℕ) (st : RuleState) → r < 16 → stateIn a b ≡ st → Stores m r st (set (set m (2 * r) a) (2 * r + 1) b)
+stores m r a b st h e = record {
+  holds = λ k. record {
+    fits = simp length-set (k .fits);
+    held = rw (rest progressAt (omega arith), rest statusAt (omega arith), sym (set-rule m after r h others), this (k .fits), e) (ap (λ (x : Held). withRules x (set (x .rules) r st)) (k .held));
+  };
+  blank = λ k. rw (rest statusAt (omega arith)) k;
 }
   where
     after : List ℕ
     after = set (set m (2 * r) a) (2 * r + 1) b
 
-    this : stateAt after r ≡ stateIn a b
-    this = ap₂ stateIn
+    rest : (i : ℕ) → progressAt ≤ i → getD after i 0 ≡ getD m i 0
+    rest i g = getD-set-other (set m (2 * r) a) (2 * r + 1) i b 0 (λ p. omega arith) ∙ getD-set-other m (2 * r) i a 0 (λ p. omega arith)
+
+    this : length m ≡ memoryLength → stateAt after r ≡ stateIn a b
+    this l = ap₂ stateIn
         (getD-set-other (set m (2 * r) a) (2 * r + 1) (2 * r) b 0 (λ p. omega arith) ∙ getD-set-same m (2 * r) a 0 (omega (arith, l)))
         (getD-set-same (set m (2 * r) a) (2 * r + 1) b 0 (omega (arith, l, length-set m (2 * r) a)))
 
@@ -61,18 +66,37 @@ pub upper : (below d w : ℕ) → below < 4294967296 → d < 65536 → w ≡ bel
 upper below d w l h e = omega arith
 
 -- the monitor's own two words
-pub settles : (m : List ℕ) (taken latest verdict mask dues : ℕ) → length m ≡ memoryLength → taken < 4294967296 → latest < 4294967296 → verdict < 256 → mask < 65536 → dues < 65536
-    → Holds (set (set m progressAt (taken + 4294967296 * latest)) statusAt (verdict + 65536 * mask + 4294967296 * dues))
-    (record { rules = rulesIn m; taken = taken; latest = latest; verdict = verdict; mask = mask; dues = dues })
-settles m taken latest verdict mask dues l ht hl hv hm hd =
+pub settles : {words : List ℕ} {m : Held} {taken latest verdict mask dues : ℕ} → taken < 4294967296 → latest < 4294967296 → verdict < 256 → mask < 65536 → dues < 65536 → Holds words m
+    → Clean (set (set words progressAt (taken + 4294967296 * latest)) statusAt (verdict + 65536 * mask + 4294967296 * dues))
+    (record { rules = m .rules; taken = taken; latest = latest; verdict = verdict; mask = mask; dues = dues })
+settles {words} {taken = taken} {latest} {verdict} {mask} {dues} ht hl hv hm hd h =
     let a : ℕ = taken + 4294967296 * latest in
     let b : ℕ = verdict + 65536 * mask + 4294967296 * dues in
-    let e = same-rules (set m progressAt a) statusAt b (omega arith) ∙ same-rules m progressAt a (omega arith) in
-    let ea : getD (set (set m progressAt a) statusAt b) progressAt 0 ≡ a = getD-set-other (set m progressAt a) statusAt progressAt b 0 (λ p. omega arith) ∙ getD-set-same m progressAt a 0 (omega (arith, l)) in
-    let eb : getD (set (set m progressAt a) statusAt b) statusAt 0 ≡ b = getD-set-same (set m progressAt a) statusAt b 0 (omega (arith, l, length-set m progressAt a)) in
-    let t : getD (set (set m progressAt a) statusAt b) progressAt 0 % 4294967296 ≡ taken = rw ea (omega arith) in
-    let s : getD (set (set m progressAt a) statusAt b) progressAt 0 / 4294967296 % 4294967296 ≡ latest = rw ea (omega arith) in
-    let v : getD (set (set m progressAt a) statusAt b) statusAt 0 % 256 ≡ verdict = rw eb (omega arith) in
-    let k : getD (set (set m progressAt a) statusAt b) statusAt 0 / 65536 % 65536 ≡ mask = rw eb (middle verdict mask dues b (omega arith) hm (omega arith)) in
-    let d : getD (set (set m progressAt a) statusAt b) statusAt 0 / 4294967296 % 65536 ≡ dues = rw eb (upper (verdict + 65536 * mask) dues b (omega arith) hd (omega arith)) in
-    record { long = length-set (set m progressAt a) statusAt b ∙ length-set m progressAt a ∙ l; held = λ i. record { rules = e i; taken = t i; latest = s i; verdict = v i; mask = k i; dues = d i }; spare = eb }
+    let after : List ℕ = set (set words progressAt a) statusAt b in
+    let e : rulesIn after ≡ rulesIn words = same-rules (set words progressAt a) statusAt b (omega arith) ∙ same-rules words progressAt a (omega arith) in
+    let ea : getD after progressAt 0 ≡ a = getD-set-other (set words progressAt a) statusAt progressAt b 0 (λ p. omega arith) ∙ getD-set-same words progressAt a 0 (omega (arith, h .fits)) in
+    let eb : getD after statusAt 0 ≡ b = getD-set-same (set words progressAt a) statusAt b 0 (omega (arith, h .fits, length-set words progressAt a)) in
+    let s : a / 4294967296 % 4294967296 ≡ latest = omega arith in
+    let t : a % 4294967296 ≡ taken = omega arith in
+    let v : b % 256 ≡ verdict = omega arith in
+    let k : b / 65536 % 65536 ≡ mask = middle verdict mask dues b (omega arith) hm (omega arith) in
+    let d : b / 4294967296 % 65536 ≡ dues = upper (verdict + 65536 * mask) dues b (omega arith) hd (omega arith) in
+    record {
+      holds = record { fits = simp length-set (h .fits); held = rw (ea, eb, t, s, v, k, d, e) (ap (λ (x : Held). record { rules = x .rules; taken = taken; latest = latest; verdict = verdict; mask = mask; dues = dues }) (h .held)) };
+      blank = rw (eb, v, k, d);
+    }
+
+-- ---- sixteen states, stored one after the other in words that are 0
+
+abbrev pub blank : List RuleState
+blank = replicate 16 noState
+
+pub zeros-hold : Clean (replicate memoryLength 0) (nothingTaken blank)
+unfolding rulesIn stateIn
+zeros-hold = record { holds = record { fits = refl; held = refl }; blank = refl }
+
+pub one-more : (f : ℕ → RuleState → RuleState) {before after : List ℕ} {r : ℕ} {st : RuleState} → r < 16 → st ≡ f r (getD blank r noState) → Stores before (r % 16) st after
+    → Clean before (nothingTaken (mapN f 0 r blank)) → Clean after (nothingTaken (mapN f 0 (r + 1) blank))
+one-more f {r = r} h e s k =
+    let own : r % 16 ≡ r = omega arith in
+    record { holds = rw (own, e, mapN-more f r blank noState h) at (s .holds (k .holds)); blank = s .blank (k .blank) }

@@ -3,7 +3,7 @@
 -- Assumes nothing.
 use mathlib.Core.Path.{_≡_}
 use mathlib.Core.List.{List}
-use Prim.Native.Nat.{ℕ, _+_, _*_, _/_, _%_, _≤_}
+use Prim.Native.Nat.{ℕ, _+_, _*_, _/_, _%_}
 use lib.ListN.{length, getD, set, replicate}
 use Rattle.step.specs.declared.RuleState.{RuleState}
 use Rattle.fragment.specs.Upto.{mapN}
@@ -54,46 +54,47 @@ progressAt = 32
 abbrev pub statusAt : ℕ
 statusAt = 33
 
-abbrev pub takenIn : ℕ → ℕ
-takenIn word = word % 4294967296
-
-abbrev pub latestIn : ℕ → ℕ
-latestIn word = word / 4294967296 % 4294967296
-
-abbrev pub verdictNumberIn : ℕ → ℕ
-verdictNumberIn word = word % 256
-
-abbrev pub maskIn : ℕ → ℕ
-maskIn word = word / 65536 % 65536
-
-abbrev pub duesIn : ℕ → ℕ
-duesIn word = word / 4294967296 % 65536
-
 -- the monitor that the words hold
 abbrev pub heldBy : List ℕ → Held
 heldBy words = record {
   rules = rulesIn words;
-  taken = takenIn (getD words progressAt 0);
-  latest = latestIn (getD words progressAt 0);
-  verdict = verdictNumberIn (getD words statusAt 0);
-  mask = maskIn (getD words statusAt 0);
-  dues = duesIn (getD words statusAt 0);
+  taken = getD words progressAt 0 % 4294967296;
+  latest = getD words progressAt 0 / 4294967296 % 4294967296;
+  verdict = getD words statusAt 0 % 256;
+  mask = getD words statusAt 0 / 65536 % 65536;
+  dues = getD words statusAt 0 / 4294967296 % 65536;
 }
 
--- the last word of a monitor whose bits 8 to 15 and 48 to 63 are 0: these bits hold nothing, and every other bit of the words holds something
-abbrev pub lastWord : Held → ℕ
-lastWord m = m .verdict + 65536 * m .mask + 4294967296 * m .dues
+-- ---- the relation
 
--- ---- the changes, of so many words as their type says
+-- as many words as a monitor has
+abbrev pub Fits : List ℕ → Type 0
+Fits words = length words ≡ memoryLength
+
+-- these words are a monitor's memory, and hold m
+pub record Holds (words : List ℕ) (m : Held) : Type 0 where
+  pub fits : Fits words
+  pub held : heldBy words ≡ m
+
+-- bits 8 to 15 and 48 to 63 of the last word are 0: these hold nothing, and every other bit of the words holds something
+abbrev pub Blank : List ℕ → Type 0
+Blank words = let m : Held = heldBy words in getD words statusAt 0 ≡ m .verdict + 65536 * m .mask + 4294967296 * m .dues
+
+-- the words hold m, and nothing beside it
+pub record Clean (words : List ℕ) (m : Held) : Type 0 where
+  pub holds : Holds words m
+  pub blank : Blank words
+
+-- ---- the changes
+
+-- a monitor with other states of its rules; and one that has taken nothing
+abbrev pub withRules : Held → List RuleState → Held
+withRules m rules = record { rules = rules; taken = m .taken; latest = m .latest; verdict = m .verdict; mask = m .mask; dues = m .dues }
+
+abbrev pub nothingTaken : List RuleState → Held
+nothingTaken rules = record { rules = rules; taken = 0; latest = 0; verdict = 0; mask = 0; dues = 0 }
 
 -- rule r gets a state, and nothing else changes
 pub record Stores (before : List ℕ) (r : ℕ) (st : RuleState) (after : List ℕ) : Type 0 where
-  pub long : length after ≡ memoryLength
-  pub rules : rulesIn after ≡ set (rulesIn before) r st
-  pub rest : (i : ℕ) → progressAt ≤ i → getD after i 0 ≡ getD before i 0
-
--- the words hold this monitor, and the bits that hold nothing are 0
-pub record Holds (words : List ℕ) (m : Held) : Type 0 where
-  pub long : length words ≡ memoryLength
-  pub held : heldBy words ≡ m
-  pub spare : getD words statusAt 0 ≡ lastWord m
+  pub holds : {m : Held} → Holds before m → Holds after (withRules m (set (m .rules) r st))
+  pub blank : Blank before → Blank after

@@ -3,8 +3,8 @@
 // and a rule's number is reduced by a remainder, so that nothing is asked of either.
 ghost use mathlib.Core.Path.{_≡_};
 ghost use Prim.Native.Nat.{_%_, _/_};
-ghost use lib.ListN.{length, getD};
-ghost use Rattle.words.specs.Words.{memoryLength, stateIn, noState, rulesIn, heldBy, Stores, Holds};
+ghost use lib.ListN.{getD};
+ghost use Rattle.words.specs.Words.{stateIn, noState, Held, heldBy, Holds, Clean, Stores};
 use step::RuleState;
 
 // ---- the layout
@@ -47,7 +47,7 @@ fn state_in(states: u64, place: u64) -> RuleState
 
 // The state of rule r.
 pub fn load(m: &Memory, r: usize) -> RuleState
-    ensures { λ st. ⌜ st ≡ getD (rulesIn (now (m .entry))) (r % 16) noState ⌝ }
+    ensures { λ st. ⌜ st ≡ getD (heldBy (now (m .entry)) .rules) (r % 16) noState ⌝ }
 {
     let k = RULE * (r % 16);
     state_in(m[k], m[k + 1])
@@ -55,7 +55,7 @@ pub fn load(m: &Memory, r: usize) -> RuleState
 
 // The end time of P of rule r.
 pub fn end_of(m: &Memory, r: usize) -> u32
-    ensures { λ e. ⌜ e ≡ getD (rulesIn (now (m .entry))) (r % 16) noState .end ⌝ }
+    ensures { λ e. ⌜ e ≡ getD (heldBy (now (m .entry)) .rules) (r % 16) noState .end ⌝ }
 {
     let k = RULE * (r % 16);
     (m[k + 1] / 4294967296 % 4294967296) as u32
@@ -63,7 +63,7 @@ pub fn end_of(m: &Memory, r: usize) -> u32
 
 // Rule r gets a state.
 pub fn store(m: &mut Memory, r: usize, st: RuleState)
-    ensures { λ _. ⌜ (length (now (m .entry)) ≡ memoryLength → Stores (now (m .entry)) (r % 16) st (now (m .exit))) ⌝ }
+    ensures { λ _. ⌜ Stores (now (m .entry)) (r % 16) st (now (m .exit)) ⌝ }
 {
     let k = RULE * (r % 16);
     let x = st.states;
@@ -110,7 +110,7 @@ pub fn dues(m: &Memory) -> u16
 
 // All but the rules' states.
 pub fn settle(m: &mut Memory, taken: u32, latest: u32, verdict: u8, mask: u16, dues: u16)
-    ensures { λ _. ⌜ (length (now (m .entry)) ≡ memoryLength → Holds (now (m .exit)) (record { rules = rulesIn (now (m .entry)); taken = taken; latest = latest; verdict = verdict; mask = mask; dues = dues })) ⌝ }
+    ensures { λ _. ⌜ ((was : Held) → Holds (now (m .entry)) was → Clean (now (m .exit)) (record { rules = was .rules; taken = taken; latest = latest; verdict = verdict; mask = mask; dues = dues })) ⌝ }
 {
     m[PROGRESS] = taken as u64 + 4294967296 * (latest as u64);
     m[STATUS] = verdict as u64 + 65536 * (mask as u64) + 4294967296 * (dues as u64);

@@ -8,7 +8,7 @@ unstarted-requires : tie.Need-unstarted-requires
 unstarted-requires c κs = search needs
 
 returns : tie.Need-returns
-returns c = fresh-promise _ (c .unstarted .ensures)
+returns c = fresh-promise (c .unstarted .ensures)
 
 pub fresh-spec : {M : Type 1} → statement M
 fresh-spec = tie.close (tie.spec unstarted-requires returns)

@@ -8,7 +8,7 @@ noted-requires : tie.Need-noted-requires
 noted-requires c κs = search needs
 
 returns : tie.Need-returns
-returns c = promise _ _ _ _ _ (c .noted .ensures)
+returns c = promise (c .noted .ensures)
 
 pub note-spec : {M : Type 1} → statement M
 note-spec = tie.close (tie.spec noted-requires returns)

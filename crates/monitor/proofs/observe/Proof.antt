@@ -8,7 +8,7 @@ observed-by-requires : tie.Need-observed-by-requires
 observed-by-requires c κs = search needs
 
 returns : tie.Need-returns
-returns c = promise _ _ _ _ _ (c .observed-by .ensures)
+returns c = promise (c .observed-by .ensures)
 
 pub observe-spec : {M : Type 1} → statement M
 observe-spec = tie.close (tie.spec observed-by-requires returns)

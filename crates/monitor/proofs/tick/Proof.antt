@@ -8,7 +8,7 @@ ticked-requires : tie.Need-ticked-requires
 ticked-requires c κs = search needs
 
 returns : tie.Need-returns
-returns c = promise _ _ _ _ _ (c .ticked .ensures)
+returns c = promise (c .ticked .ensures)
 
 pub tick-spec : {M : Type 1} → statement M
 tick-spec = tie.close (tie.spec ticked-requires returns)

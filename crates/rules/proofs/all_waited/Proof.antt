@@ -5,7 +5,7 @@ use Prim.Native.Nat.{ℕ}
 use native.Mathlib.Omega.{arith}
 use denote.Ref.{now}
 use lib.ListN.{getD}
-use Rattle.words.specs.Words.{noState, rulesIn}
+use Rattle.words.specs.Words.{noState, heldBy}
 use Rattle.rules.specs.Pass.{waitedOf}
 use Rattle.rules.proofs.Passing.{Noting, noting-start, noting-more, noting-end}
 use borrow.Author.Needs.{needs}
@@ -13,7 +13,7 @@ use Rattle.rules.proofs.all_waited.Statement.{statement}
 use Rattle.rules.proofs.all_waited.Tie as tie
 
 abbrev stands : (table words : List ℕ) (time k : ℕ) → ℕ
-stands table words time k = waitedOf table k (getD (rulesIn words) k noState) time .standing
+stands table words time k = waitedOf table k (getD (heldBy words .rules) k noState) time .standing
 
 abbrev Inv-loop : tie.InvT-loop
 Inv-loop table m who time all₀ todo₀ all todo = Noting 0 who (stands table m time) todo all

@@ -1,6 +1,5 @@
 -- `rules::looked` meets its contract: the rules held to a deadline and those that step are together those that are looked at. Where no rule has the name, it is `held`.
 -- Assumes nothing.
-use denote.Ref.{now}
 use Rattle.rules.proofs.Passing.{looks}
 use borrow.Author.Needs.{needs}
 use Rattle.rules.proofs.looked.Statement.{statement}
@@ -31,9 +30,10 @@ told-requires : tie.Need-told-requires
 told-requires c κs = search needs
 
 returns-2 : tie.Need-returns-2
-returns-2 c = let a = c .before .before .before .before .before .before .before .before .before .args in
-    looks (now (a .table)) (a .concerned) (a .opens) (a .dues) (a .name) (a .time) (now (a .m)) _ (c .before .before .before .before .before .before .without .ensures) (c .before .before .before .before .before .all-waited .ensures)
-    (c .before .before .before .all-stepped .ensures) (c .before .before .union .ensures) (c .before .without2 .ensures) (c .told .ensures)
+returns-2 c was h =
+    let waits = c .before .before .before .before .before in
+    looks h (waits .before .without .ensures) (waits .all-waited .ensures) (c .before .before .before .all-stepped .ensures was h)
+    (c .before .before .union .ensures) (c .before .without2 .ensures) (c .told .ensures)
 
 pub looked-spec : {M : Type 1} → statement M
 looked-spec = tie.close (tie.spec held-requires returns without-requires all-waited-requires all-stepped-requires union-requires without-requires-2 told-requires returns-2)

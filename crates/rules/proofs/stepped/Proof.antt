@@ -1,8 +1,9 @@
 -- `rules::stepped` meets its contract: a rule's number is its own remainder by 16. Assumes nothing.
-use mathlib.Core.Path.{_≡_}
+use mathlib.Core.Path.{_≡_, ap}
 use Prim.Native.Nat.{_%_}
 use native.Mathlib.Omega.{arith}
-use Rattle.rules.proofs.Passing.{steps-stored}
+use Rattle.step.specs.declared.Stepped.{Stepped}
+use Rattle.words.specs.Words.{Held}
 use borrow.Author.Needs.{needs}
 use Rattle.rules.proofs.stepped.Statement.{statement}
 use Rattle.rules.proofs.stepped.Tie as tie
@@ -17,9 +18,11 @@ store-requires : tie.Need-store-requires
 store-requires c κs = search needs
 
 returns : tie.Need-returns
-returns c = let a = c .before .before .before .before .before .before .args in
-    let own : a .r % 16 ≡ a .r = omega (arith, c .before .before .before .before .before .before .pre) in
-    steps-stored _ (c .before .before .before .act .result) (c .before .before .before .before .before .before .pre) (rw (c .before .before .before .before .load .ensures, own) at (c .before .before .before .act .ensures)) (c .store .ensures)
+returns c was h =
+    let act = c .before .before .before in
+    let own : act .before .before .before .args .r % 16 ≡ act .before .before .before .args .r = omega (arith, act .before .before .before .pre) in
+    let e = rw (act .before .load .ensures, own, ap (λ (x : Held). x .rules) (h .held)) at (act .act .ensures) in
+    record { stands = ap (λ (s : Stepped). s .standing) e; holds = rw (own, ap (λ (s : Stepped). s .state) e) at (c .store .ensures .holds h) }
 
 pub stepped-spec : {M : Type 1} → statement M
 stepped-spec = tie.close (tie.spec load-requires act-requires store-requires returns)

@@ -1,43 +1,24 @@
 -- `value::rules_in_words` meets its contract. After r turns the first r rules have their states. The measure is what is left of the 16. Assumes nothing.
-use mathlib.Core.Path.{_≡_, refl, sym, ap, _∙_}
-use mathlib.Core.List.{List}
-use Prim.Native.Nat.{ℕ, _+_, _%_, _≤_, _<_, _-_}
+use mathlib.Core.Path.{_≡_, _∙_}
+use Prim.Native.Nat.{_≤_, _<_, _-_}
 use native.Mathlib.Omega.{arith}
-use lib.ListN.{length, getD, set, replicate}
-use lib.Seq.{ext-getD}
-use Rattle.step.specs.declared.RuleState.{RuleState}
-use Rattle.fragment.specs.Upto.{mapN, mapN-more, length-mapN}
-use Rattle.words.specs.Words.{memoryLength, stateIn, noState, rulesIn}
-use Rattle.words.proofs.Places.{getD-any, getD-mapN}
+use Rattle.fragment.specs.Upto.{mapN}
+use Rattle.words.specs.Words.{noState, Clean, nothingTaken}
+use Rattle.words.proofs.Laws.{blank, zeros-hold, one-more}
+use Rattle.words.proofs.Places.{getD-any}
 use borrow.Author.Needs.{needs}
+use Rattle.value.proofs.Sixteen.{given, all-given}
 use Rattle.value.proofs.rules_in_words.Statement.{statement}
 use Rattle.value.proofs.rules_in_words.Tie as tie
 
-abbrev blank : List RuleState
-blank = replicate 16 noState
-
-abbrev given : List RuleState → ℕ → RuleState → RuleState
-given rules r st = getD rules r noState
-
--- sixteen states, all given
-all-given : (rules : List RuleState) → length rules ≡ 16 → mapN (given rules) 0 16 blank ≡ rules
-all-given rules l =
-    ext-getD noState _ _ (length-mapN (given rules) 0 16 blank ∙ sym l)
-    (λ r h. getD-mapN (given rules) noState 0 16 blank r (omega (arith, h, length-mapN (given rules) 0 16 blank)) (omega arith) ∙ ap (λ (i : ℕ). getD rules i noState) (omega arith))
-
--- one more; what an element is past the end does not matter
-given-more : (rules : List RuleState) (r : ℕ) (d : RuleState) → length rules ≡ 16 → r < 16 → set (mapN (given rules) 0 r blank) r (getD rules r d) ≡ mapN (given rules) 0 (r + 1) blank
-given-more rules r d l h = ap (set (mapN (given rules) 0 r blank) r) (getD-any rules r d noState (omega (arith, l))) ∙ mapN-more (given rules) r blank noState h
-
 abbrev Inv-loop : tie.InvT-loop
-Inv-loop rules w₀ r₀ w r = (r ≤ 16) × (length w ≡ memoryLength) × (rulesIn w ≡ mapN (given rules) 0 r blank)
+Inv-loop rules w₀ r₀ w r = (r ≤ 16) × Clean w (nothingTaken (mapN (given rules) 0 r blank))
 
 abbrev μ-loop : tie.MeasureT-loop
 μ-loop rules w₀ r₀ w r = 16 - r
 
 loop-holds : tie.Need-loop-holds Inv-loop μ-loop
-unfolding rulesIn stateIn
-loop-holds c = (omega arith, refl, refl)
+loop-holds c = (omega arith, zeros-hold)
 
 mul-st : tie.Need-mul-st Inv-loop μ-loop
 mul-st c = search needs
@@ -56,18 +37,16 @@ loop-less c = search needs
 
 loop-again : tie.Need-loop-again Inv-loop μ-loop
 loop-again c =
-    let turn = c .before .before .before .before .loop in
-    let h : turn .r < 16 = c .before .before .before .loop-test .taken in
-    let e : turn .r % 16 ≡ turn .r = omega arith in
-    let st = c .store .ensures (turn .inv .1) in
-    (omega arith, st .long, st .rules ∙ rw (e, turn .inv .2) (given-more (c .before .before .before .before .before .args .t1) (turn .r) _ (search needs) h))
+    let turn = c .before .before .before .before in
+    let rules = turn .before .args .t1 in
+    let h : turn .loop .r < 16 = c .before .before .before .loop-test .taken in
+    (omega arith, one-more (given rules) h (getD-any rules (turn .loop .r) _ noState (search needs)) (c .store .ensures) (turn .loop .inv .1))
 
 returns : tie.Need-returns Inv-loop μ-loop
 returns c =
     let turn = c .before .loop in
-    let rules = c .before .before .args .t1 in
     let e : turn .r ≡ 16 = omega (arith, c .loop-test .left, turn .inv .0) in
-    (turn .inv .1, turn .inv .2 ∙ ap (λ (r : ℕ). mapN (given rules) 0 r blank) e ∙ all-given rules (search needs))
+    rw (e, all-given (c .before .before .args .t1) (search needs)) at (turn .inv .1 .holds)
 
 pub rules-in-words-spec : {M : Type 1} → statement M
 rules-in-words-spec = tie.close (tie.spec Inv-loop μ-loop loop-holds mul-st array-copy-out-st store-requires add-r loop-less loop-again returns)

@@ -1,23 +1,18 @@
 -- `value::rules_of` meets its contract. After r turns the first r states are those that the words hold. The measure is what is left of the 16. Assumes nothing.
 use mathlib.Core.Path.{_≡_, refl, _∙_}
-use mathlib.Core.List.{List}
 use Prim.Native.Nat.{_%_, _≤_, _<_, _-_}
 use native.Mathlib.Omega.{arith}
 use denote.Ref.{now}
-use lib.ListN.{replicate}
-use Rattle.step.specs.declared.RuleState.{RuleState}
 use Rattle.fragment.specs.Upto.{mapN, mapN-more}
-use Rattle.words.specs.Words.{noState, ruleFrom, rulesIn}
-use Rattle.words.proofs.Laws.{rule-at}
+use Rattle.words.specs.Words.{noState, heldBy}
+use Rattle.words.proofs.Laws.{blank, sixteen}
 use borrow.Author.Needs.{needs}
+use Rattle.value.proofs.Sixteen.{given, all-given}
 use Rattle.value.proofs.rules_of.Statement.{statement}
 use Rattle.value.proofs.rules_of.Tie as tie
 
-abbrev blank : List RuleState
-blank = replicate 16 noState
-
 abbrev Inv-loop : tie.InvT-loop
-Inv-loop w rules₀ r₀ rules r = (r ≤ 16) × (rules ≡ mapN (ruleFrom w) 0 r blank)
+Inv-loop w rules₀ r₀ rules r = (r ≤ 16) × (rules ≡ mapN (given (heldBy w .rules)) 0 r blank)
 
 abbrev μ-loop : tie.MeasureT-loop
 μ-loop w rules₀ r₀ rules r = 16 - r
@@ -46,14 +41,14 @@ loop-again c =
     let w = now (c .before .before .before .args .w) in
     let h : turn .r < 16 = c .before .loop-test .taken in
     let e : turn .r % 16 ≡ turn .r = omega arith in
-    (omega arith, rw (turn .inv .1, c .load .ensures, e, rule-at w (turn .r) h) (mapN-more (ruleFrom w) (turn .r) blank noState h))
+    (omega arith, rw (turn .inv .1, c .load .ensures, e) (mapN-more (given (heldBy w .rules)) (turn .r) blank noState h))
 
 returns : tie.Need-returns Inv-loop μ-loop
-unfolding rulesIn
 returns c =
     let turn = c .before .loop in
+    let w = now (c .before .before .args .w) in
     let e : turn .r ≡ 16 = omega (arith, c .loop-test .left, turn .inv .0) in
-    turn .inv .1 ∙ rw e
+    turn .inv .1 ∙ rw e (all-given (heldBy w .rules) (sixteen w))
 
 pub rules-of-spec : {M : Type 1} → statement M
 rules-of-spec = tie.close (tie.spec Inv-loop μ-loop loop-holds load-requires mul-rules array-set-from-rules add-r loop-less loop-again returns)

@@ -33,10 +33,10 @@ element-write-m-2 c = search needs
 
 returns : tie.Need-returns
 unfolding stateIn
-returns c = λ l.
+returns c =
     let a = c .before .before .before .args in
     let p = c .place-word .ensures in
-    stores (a .m .now) (a .r % 16) _ _ (a .st) l (omega arith)
+    stores (a .m .now) (a .r % 16) _ _ (a .st) (omega arith)
     (λ i. record { fragment = p .0 i; current = p .1 i; states = c .before .packed .ensures .1 i; count = p .2 i; end = p .3 i })
 
 pub store-spec : {M : Type 1} → statement M
