@@ -10,8 +10,7 @@ use Rattle.words.specs.Words.{Held, heldBy, Fits, Holds, Blank}
 use Rattle.rules.specs.Pass.{passOf, Passes}
 use Rattle.rules.specs.declared.Masks.{Masks}
 use Rattle.answers.specs.Cases.{valuesOf}
-use Rattle.answers.specs.Observe.{Observed, judgedOf, refusedOf, takenOf, lookedOf, observeOf}
-use Rattle.answers.specs.Leaving.{Gives, Judges, Leaves}
+use Rattle.answers.specs.Observe.{Observed, refusedOf, takenOf, lookedOf, observeOf, Gives, Judges, Leaves}
 use Rattle.answers.specs.declared.Observation.{Observation}
 use Rattle.answers.specs.declared.Observation.the-variants.{Event, Clock}
 use Rattle.answers.specs.declared.Answer.{Answer}
@@ -50,7 +49,7 @@ module _ {table before : List ℕ} {concerned name time : ℕ} where
         let pass = passes (heldBy before) (record { fits = l; held = refl }) in
         rw (le-ltb time (heldBy before .latest) h, lt-leb 4294967295 (heldBy before .taken) g) (rw (pass .masks, eo, ed, ek) at (judges .gives (pass .holds)));
     unchanged = λ z. absurd (judges .taken z);
-    blank = λ l z. judges .blank (passes (heldBy before) (record { fits = l; held = refl }) .holds .fits);
+    blank = λ l z. judges .blank (passes (heldBy before) (record { fits = l; held = refl }) .holds);
   }
 
 -- ---- any observation

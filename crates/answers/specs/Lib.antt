@@ -1,4 +1,3 @@
 pub mod Cases
 pub mod Observe
-pub mod Leaving
 pub mod Every

@@ -1,17 +1,20 @@
--- One observation of a book's monitor, over the book's table.
+-- One observation of a book's monitor, over the book's table: what it makes of the monitor, and what that leaves in the monitor's words.
 -- Assumes nothing.
+use mathlib.Core.Path.{_≡_}
 use mathlib.Core.Bool.{Bool, true, false, cond}
 use mathlib.Core.List.{List}
 use Prim.Native.Nat.{ℕ, _+_}
 use lib.Dec.{leb, ltb, eqb}
 use lib.ListN.{getD}
-use Rattle.words.specs.Words.{Held}
+use Rattle.words.specs.Words.{Held, heldBy, Fits, Holds, Blank}
 use Rattle.answers.specs.declared.Observation.{Observation}
 use Rattle.answers.specs.declared.Observation.the-variants.{Event, Clock}
 use Rattle.answers.specs.declared.Answer.{Answer}
 use Rattle.answers.specs.declared.Answer.the-variants.{Whole, Open, Broken, Refused}
 use Rattle.tables.specs.Cells.{maskIn}
 use Rattle.rules.specs.Pass.{Pass, passOf}
+use Rattle.rules.specs.declared.Masks.{Masks}
+use Rattle.answers.specs.Cases.{valuesOf}
 
 -- a monitor after an observation, and the answer
 pub record Observed : Type 0 where
@@ -44,3 +47,23 @@ lookedOf table m (Clock time) = takenOf table m 0 0 time
 
 unfoldable pub observeOf : List ℕ → Held → Observation → Observed
 observeOf table m o = cond (eqb (m .verdict) 2) (record { monitor = m; answer = Broken (m .taken) (m .mask) }) (lookedOf table m o)
+
+-- ---- in a monitor's words
+
+-- the words hold the monitor of a pair, and the answer is its other half
+pub record Gives (o : Observed) (a : Answer) (after : List ℕ) : Type 0 where
+  pub holds : Holds after (o .monitor)
+  pub answer : a ≡ o .answer
+
+-- A refused observation leaves every word, and so does any observation after a break; one that is taken leaves 0 in the bits that hold nothing
+pub record Leaves (table before : List ℕ) (o : Observation) (a : Answer) (after : List ℕ) : Type 0 where
+  pub gives : Fits before → Gives (observeOf table (heldBy before) o) a after
+  pub unchanged : valuesOf a .answer ≡ 3 → after ≡ before
+  pub stopped : heldBy before .verdict ≡ 2 → after ≡ before
+  pub blank : Fits before → (heldBy before .verdict ≡ 2 → ⊥) → (valuesOf a .answer ≡ 3 → ⊥) → Blank after
+
+-- the same of a verdict, which is no refusal
+pub record Judges (before : List ℕ) (p : Masks) (k time : ℕ) (a : Answer) (after : List ℕ) : Type 0 where
+  pub gives : {m : Held} → Holds before m → Gives (judgedOf (record { rules = m .rules; broken = p .broken; opens = p .opens; dues = p .dues }) k time) a after
+  pub taken : valuesOf a .answer ≡ 3 → ⊥
+  pub blank : {m : Held} → Holds before m → Blank after

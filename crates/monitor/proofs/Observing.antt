@@ -32,8 +32,7 @@ use Rattle.tables.specs.Cells.{maskIn}
 use Rattle.step.specs.Shows.{running}
 use Rattle.words.specs.Words.{Held, heldBy}
 use Rattle.rules.specs.Pass.{Pass, passOf}
-use Rattle.answers.specs.Observe.{Observed, judgedBy, judgedOf, refusedOf, takenOf, lookedOf, observeOf}
-use Rattle.answers.specs.Leaving.{Leaves}
+use Rattle.answers.specs.Observe.{Observed, judgedBy, judgedOf, refusedOf, takenOf, lookedOf, observeOf, Leaves}
 use Rattle.answers.proofs.Verdicts.{judged-says}
 use Rattle.monitor.specs.Promise.{seen, valuesOf, verdictIn, noModel, modelAt, Represents, Tracks, inWords, Observes}
 use Rattle.answers.specs.declared.Observation.{Observation}

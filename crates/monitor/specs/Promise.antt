@@ -19,8 +19,7 @@ use Rattle.layout.specs.Pages.{ruleAt}
 use Rattle.book.specs.Looks.{Looks}
 use Rattle.book.specs.declared.Book.{Book}
 use Rattle.step.specs.Shows.{Shows, running}
-use Rattle.words.specs.Words.{noState, Held, heldBy}
-use Rattle.words.specs.Words as W
+use Rattle.words.specs.Words.{noState, Held, heldBy, Fits, Blank}
 use Rattle.opening.specs.Fresh.{freshHeld}
 use Rattle.answers.specs.Observe.{observeOf}
 use Rattle.answers.specs.declared.Observation.{Observation}
@@ -78,7 +77,7 @@ pub record Form (X : Type 0) : Type 1 where
 
 -- in words: their type says how many, but a contract is not told the length of an array behind a reference
 abbrev pub inWords : Form (List ℕ)
-inWords = record { held = heldBy; Fits = W.Fits; Blank = W.Blank }
+inWords = record { held = heldBy; Fits = Fits; Blank = Blank }
 
 module _ {X : Type 0} (F : Form X) where
   -- a monitor follows what the judge keeps, under the book of the sheet

@@ -9,7 +9,7 @@ use native.Mathlib.Nat.{zero-add}
 use native.Mathlib.Omega.{arith}
 use lib.Bits.{bitOr, or-zero-r, or-mod, or-shr}
 use lib.Dec.{eqb}
-use lib.ListN.{length, getD, set}
+use lib.ListN.{length, getD}
 use lib.Pow.{pow-lt, shl-exact}
 use borrow.Author.Tests.{eqb-true, eq-eqb, ne-eqb, lt-ltb}
 use Rattle.names.specs.Names.{member}
@@ -25,7 +25,8 @@ use Rattle.words.specs.Words.{noState, Held, heldBy, Holds, withRules}
 use Rattle.words.proofs.Laws.{middle, upper, sixteen}
 use Rattle.words.proofs.Places.{mapN-alike, mapN-same, set-mapN, getD-mapN}
 use Rattle.rules.specs.declared.Masks.{Masks}
-use Rattle.rules.specs.Pass.{Pass, Marks, Notes, Waits, Tells, Steps, StepsAll, Passes, brokenIn, openIn, dueIn, marksOf, stepsAt, waitedOf, ruleOf, isBroken, isOpen, isDue, stateAt, brokenAt, openAt, dueAt, passOf}
+use Rattle.rules.specs.Pass.{Marks, Notes, Waits, Tells, Steps, StepsAll, Passes}
+use Rattle.rules.specs.Pass.{brokenIn, openIn, dueIn, marksOf, stepsAt, waitedOf, ruleOf, isBroken, isOpen, isDue, stateAt, brokenAt, openAt, dueAt, passOf}
 
 -- ---- one rule's marks
 
@@ -207,7 +208,8 @@ module _ (table : List ℕ) (noted who name time : ℕ) (m : Held) where
     this : actOf table r (getD (m .rules) r noState) name time .state ≡ seenState todo′ r (getD (m .rules) r noState)
     this = rw (seen-this noted who stands (p .notes .within) inside left)
 
-    pub stepping-more : {after : List ℕ} {made s : ℕ} → ((m′ : Held) → Holds words m′ → Steps (actOf table r (getD (m′ .rules) r noState) name time) r m′ s after) → Marks all r s made → Stepping after todo′ made
+    pub stepping-more : {after : List ℕ} {made s : ℕ} → ((k : Held) → Holds words k → Steps (actOf table r (getD (k .rules) r noState) name time) r k s after) → Marks all r s made
+        → Stepping after todo′ made
     stepping-more st w = let t = rw was at (st _ (p .holds)) in record {
       many = p .many;
       holds = rw (
@@ -268,7 +270,7 @@ looks {table} {concerned} {opens} {dues} {name} {time} {m = m} {who} {held = hel
     let due = t .due ∙ mask-is 16 (dueIn all) (dueAt table concerned opens dues (m .rules) name time) (omega arith)
     (λ k n. members dueIn isDue (h .due) (s .notes .due) refl k ∙ either (member concerned k) (member dues k) (acted k) (waits k) isDue) in
     record {
-      masks = rw (broke, opened, due);
+      masks = λ i. record { broken = broke i; opens = opened i; dues = due i };
       holds = rw (mapN-alike (stepsAt table concerned name time) (stateAt table concerned opens dues (m .rules) name time) 0 16 (m .rules)
           (λ k st n. state-either (member concerned k) (member dues k) (actOf table k st name time) st _)) at (s .holds);
     }

@@ -124,11 +124,7 @@ pub record StepsAll (table : List ℕ) (noted who name time : ℕ) (m : Held) (a
   pub notes : Notes noted who (λ k. actOf table k (getD (m .rules) k noState) name time .standing) all
   pub holds : Holds after (withRules m (mapN (stepsAt table who name time) 0 16 (m .rules)))
 
--- what is made of the rules, and the masks that are told
-abbrev pub passed : List RuleState → Masks → Pass
-passed rules p = record { rules = rules; broken = p .broken; opens = p .opens; dues = p .dues }
-
 -- all of them
 pub record Passes (pass : Pass) (m : Held) (p : Masks) (after : List ℕ) : Type 0 where
-  pub masks : passed (pass .rules) p ≡ pass
+  pub masks : p ≡ record { broken = pass .broken; opens = pass .opens; dues = pass .dues }
   pub holds : Holds after (withRules m (pass .rules))

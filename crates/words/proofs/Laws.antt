@@ -8,12 +8,12 @@ use lib.ListN.{length, getD, set, replicate, length-set}
 use lib.Seq.{getD-set-same, getD-set-other}
 use Rattle.step.specs.declared.RuleState.{RuleState}
 use Rattle.fragment.specs.Upto.{mapN, mapN-more, length-mapN}
-use Rattle.words.specs.Words.{memoryLength, progressAt, statusAt, stateIn, stateAt, noState, ruleFrom, rulesIn, Held, Holds, Clean, withRules, nothingTaken, Stores}
+use Rattle.words.specs.Words.{memoryLength, progressAt, lastAt, stateIn, stateAt, noState, ruleFrom, rulesIn, Held, heldBy, Fits, Holds, Clean, withRules, nothingTaken, Stores}
 use Rattle.words.proofs.Places.{mapN-within, set-mapN, getD-mapN}
 
 -- ---- the rules
 
-pub sixteen : (words : List ℕ) → length (rulesIn words) ≡ 16
+pub sixteen : (words : List ℕ) → length (heldBy words .rules) ≡ 16
 unfolding rulesIn
 sixteen words = length-mapN (ruleFrom words) 0 16 (replicate 16 noState)
 
@@ -27,7 +27,7 @@ unfolding rulesIn
 set-rule m after r h e = set-mapN (ruleFrom m) (ruleFrom after) 16 r (replicate 16 noState) noState h (omega arith) (λ j x n. e j n)
 
 -- words past the rules'
-pub same-rules : (m : List ℕ) (k w : ℕ) → progressAt ≤ k → rulesIn (set m k w) ≡ rulesIn m
+same-rules : (m : List ℕ) (k w : ℕ) → progressAt ≤ k → rulesIn (set m k w) ≡ rulesIn m
 unfolding rulesIn
 same-rules m k w h =
     mapN-within (ruleFrom (set m k w)) (ruleFrom m) 0 16 (replicate 16 noState)
@@ -38,9 +38,9 @@ pub stores : (m : List ℕ) (r a b : ℕ) (st : RuleState) → r < 16 → stateI
 stores m r a b st h e = record {
   holds = λ k. record {
     fits = simp length-set (k .fits);
-    held = rw (rest progressAt (omega arith), rest statusAt (omega arith), sym (set-rule m after r h others), this (k .fits), e) (ap (λ (x : Held). withRules x (set (x .rules) r st)) (k .held));
+    held = rw (rest progressAt (omega arith), rest lastAt (omega arith), sym (set-rule m after r h others), this (k .fits), e) (ap (λ (x : Held). withRules x (set (x .rules) r st)) (k .held));
   };
-  blank = λ k. rw (rest statusAt (omega arith)) k;
+  blank = λ k. rw (rest lastAt (omega arith)) k;
 }
   where
     after : List ℕ
@@ -49,7 +49,7 @@ stores m r a b st h e = record {
     rest : (i : ℕ) → progressAt ≤ i → getD after i 0 ≡ getD m i 0
     rest i g = getD-set-other (set m (2 * r) a) (2 * r + 1) i b 0 (λ p. omega arith) ∙ getD-set-other m (2 * r) i a 0 (λ p. omega arith)
 
-    this : length m ≡ memoryLength → stateAt after r ≡ stateIn a b
+    this : Fits m → stateAt after r ≡ stateIn a b
     this l = ap₂ stateIn
         (getD-set-other (set m (2 * r) a) (2 * r + 1) (2 * r) b 0 (λ p. omega arith) ∙ getD-set-same m (2 * r) a 0 (omega (arith, l)))
         (getD-set-same (set m (2 * r) a) (2 * r + 1) b 0 (omega (arith, l, length-set m (2 * r) a)))
@@ -67,24 +67,22 @@ upper below d w l h e = omega arith
 
 -- the monitor's own two words
 pub settles : {words : List ℕ} {m : Held} {taken latest verdict mask dues : ℕ} → taken < 4294967296 → latest < 4294967296 → verdict < 256 → mask < 65536 → dues < 65536 → Holds words m
-    → Clean (set (set words progressAt (taken + 4294967296 * latest)) statusAt (verdict + 65536 * mask + 4294967296 * dues))
+    → Clean (set (set words progressAt (taken + 4294967296 * latest)) lastAt (verdict + 65536 * mask + 4294967296 * dues))
     (record { rules = m .rules; taken = taken; latest = latest; verdict = verdict; mask = mask; dues = dues })
-settles {words} {taken = taken} {latest} {verdict} {mask} {dues} ht hl hv hm hd h =
+settles {words} {m} {taken} {latest} {verdict} {mask} {dues} ht hl hv hm hd h =
     let a : ℕ = taken + 4294967296 * latest in
     let b : ℕ = verdict + 65536 * mask + 4294967296 * dues in
-    let after : List ℕ = set (set words progressAt a) statusAt b in
-    let e : rulesIn after ≡ rulesIn words = same-rules (set words progressAt a) statusAt b (omega arith) ∙ same-rules words progressAt a (omega arith) in
-    let ea : getD after progressAt 0 ≡ a = getD-set-other (set words progressAt a) statusAt progressAt b 0 (λ p. omega arith) ∙ getD-set-same words progressAt a 0 (omega (arith, h .fits)) in
-    let eb : getD after statusAt 0 ≡ b = getD-set-same (set words progressAt a) statusAt b 0 (omega (arith, h .fits, length-set words progressAt a)) in
+    let after : List ℕ = set (set words progressAt a) lastAt b in
+    let e : rulesIn after ≡ rulesIn words = same-rules (set words progressAt a) lastAt b (omega arith) ∙ same-rules words progressAt a (omega arith) in
+    let ea : getD after progressAt 0 ≡ a = getD-set-other (set words progressAt a) lastAt progressAt b 0 (λ p. omega arith) ∙ getD-set-same words progressAt a 0 (omega (arith, h .fits)) in
+    let eb : getD after lastAt 0 ≡ b = getD-set-same (set words progressAt a) lastAt b 0 (omega (arith, h .fits, length-set words progressAt a)) in
     let s : a / 4294967296 % 4294967296 ≡ latest = omega arith in
     let t : a % 4294967296 ≡ taken = omega arith in
     let v : b % 256 ≡ verdict = omega arith in
     let k : b / 65536 % 65536 ≡ mask = middle verdict mask dues b (omega arith) hm (omega arith) in
     let d : b / 4294967296 % 65536 ≡ dues = upper (verdict + 65536 * mask) dues b (omega arith) hd (omega arith) in
-    record {
-      holds = record { fits = simp length-set (h .fits); held = rw (ea, eb, t, s, v, k, d, e) (ap (λ (x : Held). record { rules = x .rules; taken = taken; latest = latest; verdict = verdict; mask = mask; dues = dues }) (h .held)) };
-      blank = rw (eb, v, k, d);
-    }
+    let same : rulesIn words ≡ m .rules = ap (λ (x : Held). x .rules) (h .held) in
+    record { holds = record { fits = simp length-set (h .fits); held = rw (ea, eb, t, s, v, k, d, e, same) }; blank = rw (eb, v, k, d) }
 
 -- ---- sixteen states, stored one after the other in words that are 0
 

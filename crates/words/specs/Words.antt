@@ -15,13 +15,10 @@ memoryLength = 34
 
 -- ---- a rule's two words
 
--- the eight recogniser states, a byte each, the first range's lowest
-abbrev pub statesIn : ℕ → List ℕ
-statesIn word = digits 8 word
-
--- the state of a rule: in the second word its fragment number, a byte; the name whose range counts, the next byte; its count, the next two; and the end time of P, the upper half
+-- the state of a rule: in the first word the eight recogniser states, a byte each, the first range's lowest; in the second its fragment number, a byte; the name whose range counts, the
+-- next byte; its count, the next two; and the end time of P, the upper half
 unfoldable pub stateIn : ℕ → ℕ → RuleState
-stateIn states place = record { fragment = place % 256; current = place / 256 % 256; states = statesIn states; count = place / 65536 % 65536; end = place / 4294967296 % 4294967296 }
+stateIn states place = record { fragment = place % 256; current = place / 256 % 256; states = digits 8 states; count = place / 65536 % 65536; end = place / 4294967296 % 4294967296 }
 
 abbrev pub stateAt : List ℕ → ℕ → RuleState
 stateAt words r = stateIn (getD words (2 * r) 0) (getD words (2 * r + 1) 0)
@@ -47,12 +44,12 @@ pub record Held : Type 0 where
   pub mask : ℕ
   pub dues : ℕ
 
--- its own two words: in one the number taken and the latest time; in the other the verdict, the mask and the dues
+-- its own two words: one for the number taken and the latest time; the last for the verdict, the mask and the dues
 abbrev pub progressAt : ℕ
 progressAt = 32
 
-abbrev pub statusAt : ℕ
-statusAt = 33
+abbrev pub lastAt : ℕ
+lastAt = 33
 
 -- the monitor that the words hold
 abbrev pub heldBy : List ℕ → Held
@@ -60,9 +57,9 @@ heldBy words = record {
   rules = rulesIn words;
   taken = getD words progressAt 0 % 4294967296;
   latest = getD words progressAt 0 / 4294967296 % 4294967296;
-  verdict = getD words statusAt 0 % 256;
-  mask = getD words statusAt 0 / 65536 % 65536;
-  dues = getD words statusAt 0 / 4294967296 % 65536;
+  verdict = getD words lastAt 0 % 256;
+  mask = getD words lastAt 0 / 65536 % 65536;
+  dues = getD words lastAt 0 / 4294967296 % 65536;
 }
 
 -- ---- the relation
@@ -78,7 +75,7 @@ pub record Holds (words : List ℕ) (m : Held) : Type 0 where
 
 -- bits 8 to 15 and 48 to 63 of the last word are 0: these hold nothing, and every other bit of the words holds something
 abbrev pub Blank : List ℕ → Type 0
-Blank words = let m : Held = heldBy words in getD words statusAt 0 ≡ m .verdict + 65536 * m .mask + 4294967296 * m .dues
+Blank words = let m : Held = heldBy words in getD words lastAt 0 ≡ m .verdict + 65536 * m .mask + 4294967296 * m .dues
 
 -- the words hold m, and nothing beside it
 pub record Clean (words : List ℕ) (m : Held) : Type 0 where

@@ -16,9 +16,9 @@ const RULE: usize = 2;
 const PROGRESS: usize = 16 * RULE;
 
 // then the verdict and its masks.
-const STATUS: usize = PROGRESS + 1;
+const LAST: usize = PROGRESS + 1;
 
-pub const LENGTH: usize = STATUS + 1;
+pub const LENGTH: usize = LAST + 1;
 
 pub type Memory = [u64; LENGTH];
 
@@ -91,27 +91,27 @@ pub fn latest(m: &Memory) -> u32
 pub fn verdict(m: &Memory) -> u8
     ensures { λ r. ⌜ r ≡ heldBy (now (m .entry)) .verdict ⌝ }
 {
-    (m[STATUS] % 256) as u8
+    (m[LAST] % 256) as u8
 }
 
 // The mask of the open rules, or of those that broke.
 pub fn mask(m: &Memory) -> u16
     ensures { λ r. ⌜ r ≡ heldBy (now (m .entry)) .mask ⌝ }
 {
-    (m[STATUS] / 65536 % 65536) as u16
+    (m[LAST] / 65536 % 65536) as u16
 }
 
 // The mask of the rules whose deadline runs.
 pub fn dues(m: &Memory) -> u16
     ensures { λ r. ⌜ r ≡ heldBy (now (m .entry)) .dues ⌝ }
 {
-    (m[STATUS] / 4294967296 % 65536) as u16
+    (m[LAST] / 4294967296 % 65536) as u16
 }
 
 // All but the rules' states.
 pub fn settle(m: &mut Memory, taken: u32, latest: u32, verdict: u8, mask: u16, dues: u16)
-    ensures { λ _. ⌜ ((was : Held) → Holds (now (m .entry)) was → Clean (now (m .exit)) (record { rules = was .rules; taken = taken; latest = latest; verdict = verdict; mask = mask; dues = dues })) ⌝ }
+    ensures { λ _. ⌜ ((k : Held) → Holds (now (m .entry)) k → Clean (now (m .exit)) (record { rules = k .rules; taken = taken; latest = latest; verdict = verdict; mask = mask; dues = dues })) ⌝ }
 {
     m[PROGRESS] = taken as u64 + 4294967296 * (latest as u64);
-    m[STATUS] = verdict as u64 + 65536 * (mask as u64) + 4294967296 * (dues as u64);
+    m[LAST] = verdict as u64 + 65536 * (mask as u64) + 4294967296 * (dues as u64);
 }

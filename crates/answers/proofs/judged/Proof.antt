@@ -13,9 +13,10 @@ settle-requires c κs = search needs
 returns : tie.Need-returns
 unfolding judgedOf
 returns c = record {
-  gives = λ h. simp (ne-eqb (c .before .before .before .args .p .broken) 0 (c .before .before .if1 .taken)) (record { holds = c .settle .ensures _ h .holds; answer = refl });
+  gives = λ h. simp (ne-eqb (c .before .before .before .args .p .broken) 0 (c .before .before .if1 .taken))
+      (record { holds = c .settle .ensures _ h .holds; answer = refl });
   taken = λ z. omega arith;
-  blank = λ l. c .settle .ensures _ (record { fits = l; held = refl }) .blank;
+  blank = λ h. c .settle .ensures _ h .blank;
 }
 
 settle-requires-2 : tie.Need-settle-requires-2
@@ -24,9 +25,10 @@ settle-requires-2 c κs = search needs
 returns-2 : tie.Need-returns-2
 unfolding judgedOf
 returns-2 c = let p = c .before .before .before .before .args .p in record {
-  gives = λ h. simp (eq-eqb (p .broken) 0 (c .before .before .before .if1 .left), ne-eqb (p .opens) 0 (c .before .before .if2 .taken)) (record { holds = c .settle2 .ensures _ h .holds; answer = refl });
+  gives = λ h. simp (eq-eqb (p .broken) 0 (c .before .before .before .if1 .left), ne-eqb (p .opens) 0 (c .before .before .if2 .taken))
+      (record { holds = c .settle2 .ensures _ h .holds; answer = refl });
   taken = λ z. omega arith;
-  blank = λ l. c .settle2 .ensures _ (record { fits = l; held = refl }) .blank;
+  blank = λ h. c .settle2 .ensures _ h .blank;
 }
 
 settle-requires-3 : tie.Need-settle-requires-3
@@ -35,9 +37,10 @@ settle-requires-3 c κs = search needs
 returns-3 : tie.Need-returns-3
 unfolding judgedOf
 returns-3 c = let p = c .before .before .before .before .args .p in record {
-  gives = λ h. simp (eq-eqb (p .broken) 0 (c .before .before .before .if1 .left), eq-eqb (p .opens) 0 (c .before .before .if2 .left)) (record { holds = c .settle3 .ensures _ h .holds; answer = refl });
+  gives = λ h. simp (eq-eqb (p .broken) 0 (c .before .before .before .if1 .left), eq-eqb (p .opens) 0 (c .before .before .if2 .left))
+      (record { holds = c .settle3 .ensures _ h .holds; answer = refl });
   taken = λ z. omega arith;
-  blank = λ l. c .settle3 .ensures _ (record { fits = l; held = refl }) .blank;
+  blank = λ h. c .settle3 .ensures _ h .blank;
 }
 
 pub judged-spec : {M : Type 1} → statement M

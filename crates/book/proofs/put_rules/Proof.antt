@@ -1,7 +1,7 @@
 -- `book::put_rules` meets its contract: the loop has stored the times and the cells of the rules passed. Assumes nothing.
 use mathlib.Core.Path.{_≡_, refl, _∙_}
 use mathlib.Core.List.{List}
-use Prim.Native.Nat.{ℕ, _+_, _-_, _≤_}
+use Prim.Native.Nat.{ℕ, _-_, _≤_}
 use native.Mathlib.Omega.{arith}
 use lib.ListN.{getD, set}
 use Rattle.tables.specs.Words.{timeIn, roundIn}

@@ -71,12 +71,15 @@ judged-requires c κs = search needs
 
 returns-5 : tie.Need-returns-5
 returns-5 c =
-    let taken = c .before .before .before .before .before .before .before .before .before in
+    let dues = c .before .before .before .before in
+    let full = dues .before .before .before .before in
+    let taken = full .before in
     let latest = taken .before .before in
     let named = latest .before .before .before in
     leaves-named (named .before .before .before .before .verdict .ensures) (named .before .before .before .if1 .left) (omega (arith, named .before .before .if2 .left)) (named .mask-in .ensures)
-    (takes-judged (omega (arith, latest .if3 .left, latest .before .latest .ensures)) (omega (arith, c .before .before .before .before .before .before .before .before .if4 .left, taken .taken2 .ensures, taken .taken2 .ok))
-    (c .before .before .before .before .before .before .mask2 .ensures) (c .before .before .before .before .dues .ensures) (omega (arith, taken .taken2 .ensures)) (c .before .before .looked .ensures) (c .judged .ensures))
+    (takes-judged (omega (arith, latest .if3 .left, latest .before .latest .ensures))
+    (omega (arith, full .if4 .left, taken .taken2 .ensures, taken .taken2 .ok)) (dues .before .before .mask2 .ensures) (dues .dues .ensures)
+    (omega (arith, taken .taken2 .ensures)) (c .before .before .looked .ensures) (c .judged .ensures))
 
 pub noted-spec : {M : Type 1} → statement M
 noted-spec = tie.close (tie.spec verdict-requires taken-requires mask-requires returns returns-2 mul-mask-in element-copy-out-mask-in mask-in-requires latest-requires returns-3 taken-requires-2 returns-4 mask-requires-2 dues-requires cast-looked looked-requires add-judged judged-requires returns-5)

@@ -51,11 +51,14 @@ judged-requires c κs = search needs
 
 returns-4 : tie.Need-returns-4
 returns-4 c =
-    let taken = c .before .before .before .before .before .before .before .before .before in
+    let dues = c .before .before .before .before in
+    let full = dues .before .before .before .before in
+    let taken = full .before in
     let latest = taken .before .before in
     leaves-clock (latest .before .before .before .before .verdict .ensures) (latest .before .before .before .if1 .left)
-    (takes-judged (omega (arith, latest .if2 .left, latest .before .latest .ensures)) (omega (arith, c .before .before .before .before .before .before .before .before .if3 .left, taken .taken2 .ensures, taken .taken2 .ok))
-    (c .before .before .before .before .before .before .mask2 .ensures) (c .before .before .before .before .dues .ensures) (omega (arith, taken .taken2 .ensures)) (c .before .before .held .ensures 0) (c .judged .ensures))
+    (takes-judged (omega (arith, latest .if2 .left, latest .before .latest .ensures))
+    (omega (arith, full .if3 .left, taken .taken2 .ensures, taken .taken2 .ok)) (dues .before .before .mask2 .ensures) (dues .dues .ensures)
+    (omega (arith, taken .taken2 .ensures)) (c .before .before .held .ensures 0) (c .judged .ensures))
 
 pub ticked-spec : {M : Type 1} → statement M
 ticked-spec = tie.close (tie.spec verdict-requires taken-requires mask-requires returns latest-requires returns-2 taken-requires-2 returns-3 mask-requires-2 dues-requires held-requires add-judged judged-requires returns-4)

@@ -1,5 +1,5 @@
 -- `value::rules_in_words` meets its contract. After r turns the first r rules have their states. The measure is what is left of the 16. Assumes nothing.
-use mathlib.Core.Path.{_≡_, _∙_}
+use mathlib.Core.Path.{_≡_}
 use Prim.Native.Nat.{_≤_, _<_, _-_}
 use native.Mathlib.Omega.{arith}
 use Rattle.fragment.specs.Upto.{mapN}

@@ -29,7 +29,7 @@ element-write-m-2 : tie.Need-element-write-m-2
 element-write-m-2 c = search needs
 
 returns : tie.Need-returns
-returns c was = settles (c .fits .taken .fits) (c .fits .latest .fits) (c .fits .verdict .fits) (c .fits .mask .fits) (c .fits .dues .fits)
+returns c k = settles (c .fits .taken .fits) (c .fits .latest .fits) (c .fits .verdict .fits) (c .fits .mask .fits) (c .fits .dues .fits)
 
 pub settle-spec : {M : Type 1} → statement M
 settle-spec =
