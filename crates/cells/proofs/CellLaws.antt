@@ -1,72 +1,37 @@
--- What a cell holds is read off its number; and the number that is made of a well-formed rule's words is the cell of the rule's range.
+-- The number that is made of a well-formed rule's words is the cell of the rule's range: each field is read off it, and says what the rule does.
 -- Assumes nothing.
-use mathlib.Core.Path.{_≡_, refl, ap₂, _∙_}
-use mathlib.Core.Bool.{Bool, cond}
-use Prim.Native.Nat.{ℕ, suc, _<_}
+use mathlib.Core.Path.{_≡_, refl, _∙_, ap₂}
+use mathlib.Core.Bool.{cond}
+use Prim.Native.Nat.{ℕ, _<_}
 use native.Mathlib.Omega.{arith}
-use lib.Dec.{leb, eqb}
+use lib.Dec.{eqb}
 use lib.ListN.{length}
+use Rattle.bits.proofs.BitLaws.{flag-small, flag-says}
 use Rattle.pattern.specs.Meaning.{Join, all, any, Fragment, Kind, once, repeated, timed, Rule, WellFormedRange, WellFormedFragment, WellFormed}
-use Rattle.pattern.specs.Model.{roundOf, fragmentAt, noFragment}
+use Rattle.pattern.specs.Model.{roundOf, isOnce, isLast, fragmentAt, noFragment}
 use Rattle.layout.specs.Layout.{headerOf, joinNumber, kindNumber}
 use Rattle.layout.specs.Pages.{headerWord, fragmentWord, rangeWord, noRange, rangeAt}
 use Rattle.layout.proofs.PageLaws.{round-formed, round-few, each-at}
-use Rattle.tables.specs.Words.{lowIn, highIn}
-use Rattle.tables.specs.Cells.{fragmentIn, indexIn, roleIn, beforeIn, looseIn, lessIn, leastIn, mostIn, cellOf, roleAfter, roleInP, roleOf, preceding, looseOf, Cell}
+use Rattle.tables.specs.Cells.{isTimed, frees, isInP, isInQ, endsP, preceding, looseOf, Cell}
 use Rattle.tables.proofs.WordLaws.{join-in, count-in, low-in, high-in}
-use Rattle.cells.specs.Making.{roleAfterP, roleWithinP, roleFrom, beforeFrom, looseFrom, lessFrom, sharedCell, cellWith}
+use Rattle.cells.specs.Making.{beforeFrom, lastFrom, freesFrom, orderFrom, looseFrom, fragmentFrom, inPFrom, inQFrom, endsPFrom, clockFrom, sharedCell, cellWith}
 use Rattle.cells.specs.Heads.{LooksHead}
 use Rattle.cells.proofs.HeadLaws.{head-round, looks-head}
-use Rattle.cells.proofs.CellBounds.{role-small, before-small, loose-small}
+use Rattle.cells.proofs.CellBounds.{before-small, loose-small}
 
--- ---- numbers
+kind-once : (K : Kind) → eqb (kindNumber K) 0 ≡ isOnce K
+kind-once (once i) = refl
+kind-once (repeated i) = refl
+kind-once (timed q t) = refl
 
--- eight parts of one number
-record Parts (f i r b a l least most cell : ℕ) : Type 0 where
-  fragment : fragmentIn cell ≡ f
-  index : indexIn cell ≡ i
-  role : roleIn cell ≡ r
-  before : beforeIn cell ≡ b
-  any : looseIn cell ≡ a
-  less : lessIn cell ≡ l
-  u : leastIn cell ≡ least
-  v : mostIn cell ≡ most
-
-parts : (f i r b a l least most : ℕ) → f < 16 → i < 8 → r < 8 → b < 16 → a < 2 → l < 8 → least < 65536 → most < 65536 → Parts f i r b a l least most (cellOf f i r b a l least most)
-parts f i r b a l least most hf hi hr hb ha hl hu hv = record {
-  fragment = omega arith;
-  index = omega arith;
-  role = omega arith;
-  before = omega arith;
-  any = omega arith;
-  less = omega arith;
-  u = omega arith;
-  v = omega arith;
-}
-
--- the two parts of a cell are the cell
-joined : (head word bounds n i : ℕ) → cellWith (sharedCell head word n) bounds i
-    ≡ cellOf n i (roleFrom head n) (beforeFrom head n) (looseFrom word) (lessFrom word) (lowIn bounds) (highIn bounds)
-unfolding cellWith sharedCell
-joined head word bounds n i = omega arith
-
--- ---- roles
-
-role-after : (K : Kind) (last : Bool) → roleAfterP (kindNumber K) last ≡ roleAfter K last
-role-after (once i) last = refl
-role-after (repeated i) last = refl
-role-after (timed q t) last = refl
-
-role-within : (K : Kind) (last : Bool) → roleWithinP (kindNumber K) last ≡ roleInP K last
-role-within (once i) last = refl
-role-within (repeated i) last = refl
-role-within (timed q t) last = refl
+kind-timed : (K : Kind) → eqb (kindNumber K) 2 ≡ isTimed K
+kind-timed (once i) = refl
+kind-timed (repeated i) = refl
+kind-timed (timed q t) = refl
 
 join-one : (j : Join) → joinNumber j < 2
 join-one all = omega arith
 join-one any = omega arith
-
--- ---- the cell of a rule's range
 
 loose-is : (f : Fragment) → WellFormedFragment f → looseFrom (fragmentWord f) ≡ looseOf f
 unfolding looseFrom looseOf
@@ -76,33 +41,59 @@ module _ (rule : Rule) (formed : WellFormed rule) where
   abbrev head : ℕ
   head = headerWord (headerOf rule)
 
-  role-is : (n : ℕ) → roleFrom head n ≡ roleOf rule n
-  unfolding roleFrom roleOf
-  role-is n =
-      let h : LooksHead head rule = looks-head rule formed in
-      rw (h .kind, h .countP, head-round rule formed)
-      (ap₂ (cond (leb (length (rule .p)) n)) (role-after (rule .kind) (leb (length (roundOf rule)) (suc n))) (role-within (rule .kind) (leb (length (rule .p)) (suc n))))
+  h : LooksHead (headerWord (headerOf rule)) rule
+  h = looks-head rule formed
 
   before-is : (n : ℕ) → beforeFrom head n ≡ preceding rule n
   unfolding beforeFrom preceding
   before-is n = rw (head-round rule formed)
 
+  last-is : (n : ℕ) → lastFrom head n ≡ isLast rule n
+  last-is n = rw (head-round rule formed)
+
+  frees-is : (n : ℕ) → freesFrom head n ≡ frees rule n
+  frees-is n = rw (h .kind, h .countP, kind-once (rule .kind))
+
+  in-p-is : (n : ℕ) → inPFrom head n ≡ isInP rule n
+  in-p-is n = rw (h .countP)
+
+  in-q-is : (n : ℕ) → inQFrom head n ≡ isInQ rule n
+  in-q-is n = rw (h .kind, h .countP, kind-timed (rule .kind))
+
+  ends-p-is : (n : ℕ) → endsPFrom head n ≡ endsP rule n
+  ends-p-is n = rw (h .kind, h .countP, kind-timed (rule .kind))
+
   module _ (n : ℕ) (inside : n < length (roundOf rule)) (i : ℕ) (within : i < length (fragmentAt rule n .ranges)) where
-    pub rule-cell : Cell rule n i (cellWith (sharedCell head (fragmentWord (fragmentAt rule n)) n) (rangeWord (rangeAt rule n i)) i)
+    abbrev cell : ℕ
+    cell = cellWith (sharedCell head (fragmentWord (fragmentAt rule n)) n) (rangeWord (rangeAt rule n i)) i
+
+    pub rule-cell : Cell rule n i cell
+    unfolding cellWith sharedCell orderFrom fragmentFrom clockFrom
     rule-cell =
         let f : Fragment = fragmentAt rule n in
         let wf : WellFormedFragment (fragmentAt rule n) = each-at WellFormedFragment noFragment (roundOf rule) n (round-formed rule formed) inside in
         let wr : WellFormedRange (rangeAt rule n i) = each-at WellFormedRange noRange (fragmentAt rule n .ranges) i (wf .ranges) within in
-        let p = parts n i (roleFrom head n) (beforeFrom head n) (looseFrom (fragmentWord f)) (lessFrom (fragmentWord f)) (lowIn (rangeWord (rangeAt rule n i))) (highIn (rangeWord (rangeAt rule n i)))
-        (omega (arith, inside, round-few rule formed)) (omega (arith, within, wf .count)) (role-small head n) (before-small head n (omega (arith, inside, head-round rule formed)))
-        (loose-small (fragmentWord f)) (omega arith) (omega arith) (omega arith) in
-        rw joined (record {
-          fragment = p .fragment;
-          index = p .index;
-          role = p .role ∙ role-is n;
-          before = p .before ∙ before-is n;
-          loose = p .any ∙ loose-is f wf;
-          less = omega (arith, p .less, count-in f wf, wf .count);
-          u = p .u ∙ low-in (rangeAt rule n i) wr;
-          v = p .v ∙ high-in (rangeAt rule n i) wr;
-        })
+        let hn = round-few rule formed in
+        let hb = before-small head n (omega (arith, inside, head-round rule formed)) in
+        let hl = flag-small (lastFrom head n) in
+        let hr = flag-small (freesFrom head n) in
+        let hi : i < 8 = omega (arith, within, wf .count) in
+        let ho = loose-small (fragmentWord f) in
+        let hp = flag-small (inPFrom head n) in
+        let hq = flag-small (inQFrom head n) in
+        let he = flag-small (endsPFrom head n) in
+        record {
+          fragment = omega arith;
+          before = omega (arith, before-is n);
+          last = flag-says 8 cell (omega arith) ∙ last-is n;
+          frees = flag-says 9 cell (omega arith) ∙ frees-is n;
+          index = omega arith;
+          less = omega (arith, count-in f wf, wf .count);
+          join = omega (arith, join-in f, join-one (f .join));
+          loose = omega (arith, loose-is f wf);
+          u = omega (arith, low-in (rangeAt rule n i) wr);
+          v = omega (arith, high-in (rangeAt rule n i) wr);
+          inP = flag-says 19 cell (omega arith) ∙ in-p-is n;
+          inQ = flag-says 20 cell (omega arith) ∙ in-q-is n;
+          endsP = flag-says 21 cell (omega arith) ∙ ends-p-is n;
+        }

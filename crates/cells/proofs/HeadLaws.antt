@@ -2,7 +2,7 @@
 -- Assumes nothing.
 use mathlib.Core.Path.{_≡_, sym}
 use mathlib.Core.List.{List, [], _∷_, _++_}
-use Prim.Native.Nat.{ℕ, _+_, _*_, _<_}
+use Prim.Native.Nat.{_+_, _<_}
 use native.Mathlib.Omega.{arith}
 use lib.ListN.{length, length-append}
 use Rattle.pattern.specs.Meaning.{Fragment, Kind, once, repeated, timed, Rule, WellFormed}
@@ -11,22 +11,9 @@ use Rattle.layout.specs.Layout.{headerOf, kindNumber, inQ, triggerOf, timeOf}
 use Rattle.layout.specs.Reading.{byKind}
 use Rattle.layout.specs.Pages.{headerWord}
 use Rattle.layout.proofs.PageLaws.{round-few}
-use Rattle.tables.specs.Words.{kindIn, countPIn, countQIn, triggerIn, timeIn, roundIn}
+use Rattle.tables.specs.Words.{roundIn}
 use Rattle.tables.proofs.Bounds.{cap-of}
 use Rattle.cells.specs.Heads.{LooksHead}
-
--- ---- numbers
-
--- five fields of one number
-record Fields (k p q i t : ℕ) : Type 0 where
-  kind : kindIn (k + 256 * (p + 256 * (q + 256 * (i + 256 * t)))) ≡ k
-  countP : countPIn (k + 256 * (p + 256 * (q + 256 * (i + 256 * t)))) ≡ p
-  countQ : countQIn (k + 256 * (p + 256 * (q + 256 * (i + 256 * t)))) ≡ q
-  trigger : triggerIn (k + 256 * (p + 256 * (q + 256 * (i + 256 * t)))) ≡ i
-  time : timeIn (k + 256 * (p + 256 * (q + 256 * (i + 256 * t)))) ≡ t
-
-fields : (k p q i t : ℕ) → k < 256 → p < 256 → q < 256 → i < 256 → t < 4294967296 → Fields k p q i t
-fields k p q i t hk hp hq hi ht = record { kind = omega arith; countP = omega arith; countQ = omega arith; trigger = omega arith; time = omega arith }
 
 -- ---- a rule's head
 
@@ -49,15 +36,9 @@ round-length (repeated i) p = sym (length-append p (triggerFragment i ∷ []))
 round-length (timed q t) p = sym (length-append p q)
 
 -- the sheet's head of a rule, and its round
+pub looks-head : (r : Rule) → WellFormed r → LooksHead (headerWord (headerOf r)) r
+looks-head r w = let s = small (r .kind) (r .p) w in record { kind = omega arith; countP = omega arith; countQ = omega arith; trigger = omega arith; time = omega arith }
+
 pub head-round : (r : Rule) → WellFormed r → roundIn (headerWord (headerOf r)) ≡ length (roundOf r)
 unfolding roundIn
-head-round r w =
-    let s = small (r .kind) (r .p) w in
-    let f = fields (kindNumber (r .kind)) (length (r .p)) (length (inQ (r .kind))) (triggerOf (r .kind)) (timeOf (r .kind)) (s .kind) (s .countP) (s .countQ) (s .trigger) (s .time) in
-    rw (f .countP, f .kind, f .countQ, round-length (r .kind) (r .p)) (cap-of 16 (length (roundOf r)) (round-few r w))
-
-pub looks-head : (r : Rule) → WellFormed r → LooksHead (headerWord (headerOf r)) r
-looks-head r w =
-    let s = small (r .kind) (r .p) w in
-    let f = fields (kindNumber (r .kind)) (length (r .p)) (length (inQ (r .kind))) (triggerOf (r .kind)) (timeOf (r .kind)) (s .kind) (s .countP) (s .countQ) (s .trigger) (s .time) in
-    record { kind = f .kind; countP = f .countP; countQ = f .countQ; trigger = f .trigger; time = f .time }
+head-round r w = let h = looks-head r w in rw (h .countP, h .kind, h .countQ, round-length (r .kind) (r .p)) (cap-of 16 (length (roundOf r)) (round-few r w))

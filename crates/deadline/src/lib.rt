@@ -1,11 +1,11 @@
-// What time adds to a rule (document 01): "The table knows no time; the deadline is added to it." By the role that a cell gives its fragment: when P ended, and whether an event, or a rule
-// whose deadline runs, is after the deadline. Sums are computed in u64, and never wrap.
+// What time adds to a rule (document 01): "The table knows no time; the deadline is added to it." By what a cell says of its fragment: when P ended, and whether an event, or a rule whose
+// deadline runs, is after the deadline. Sums are computed in u64, and never wrap.
 ghost use mathlib.Core.Path.{_≡_};
-ghost use Rattle.deadline.specs.Deadlines.{pastOf, lateOf, endOf, dueOf};
+ghost use Rattle.deadline.specs.Deadlines.{overdueOf, lateOf, endOf};
 
-// After the deadline.
-fn past(limit: u32, end: u32, time: u32) -> bool
-    ensures { λ r. ⌜ r ≡ pastOf limit end time ⌝ }
+// A rule whose deadline runs is broken by the clock: the time is after the deadline.
+pub fn overdue(limit: u32, end: u32, time: u32) -> bool
+    ensures { λ r. ⌜ r ≡ overdueOf limit end time ⌝ }
 {
     end as u64 + (limit as u64) < time as u64
 }
@@ -14,8 +14,8 @@ fn past(limit: u32, end: u32, time: u32) -> bool
 pub fn late(cell: u64, limit: u32, end: u32, time: u32) -> bool
     ensures { λ r. ⌜ r ≡ lateOf cell limit end time ⌝ }
 {
-    if tables::role_in(cell) / 2 == 1 {
-        return past(limit, end, time);
+    if tables::in_q(cell) {
+        return overdue(limit, end, time);
     }
     false
 }
@@ -24,18 +24,8 @@ pub fn late(cell: u64, limit: u32, end: u32, time: u32) -> bool
 pub fn ended(cell: u64, end: u32, time: u32) -> u32
     ensures { λ r. ⌜ r ≡ endOf cell end time ⌝ }
 {
-    if tables::role_in(cell) < 2 {
+    if tables::in_p(cell) {
         return time;
     }
     end
-}
-
-// How a rule whose deadline runs stands at a time: 2 open, 3 broken.
-pub fn due(limit: u32, end: u32, time: u32) -> u8
-    ensures { λ r. ⌜ r ≡ dueOf limit end time ⌝ }
-{
-    if past(limit, end, time) {
-        return 3;
-    }
-    2
 }

@@ -2,8 +2,9 @@
 -- A rule's fragments are those of its round, so that a trigger has its own, the last: "A trigger counts as a last fragment of one range [1,1]".
 -- Assumes nothing.
 use mathlib.Core.List.{List, [], _∷_}
-use Prim.Native.Nat.{ℕ, suc, _+_, _*_}
+use Prim.Native.Nat.{ℕ, suc, _*_}
 use lib.ListN.{length, getD, set, replicate}
+use Rattle.bits.specs.Bits.{over}
 use Rattle.pattern.specs.Meaning.{Range, Fragment, timed, Rule}
 use Rattle.pattern.specs.Model.{triggerFragment, roundOf, fragmentAt}
 use Rattle.layout.specs.Layout.{Header, headerOf, joinNumber}
@@ -12,13 +13,13 @@ use Rattle.layout.specs.Reading.{byKind}
 -- ---- a part as one number: its own bytes, little-endian
 
 abbrev pub rangeWord : Range → ℕ
-rangeWord r = r .name + 256 * (r .u + 65536 * r .v)
+rangeWord r = over 8 (r .name) (over 16 (r .u) (r .v))
 
 abbrev pub fragmentWord : Fragment → ℕ
-fragmentWord f = joinNumber (f .join) + 256 * length (f .ranges)
+fragmentWord f = over 8 (joinNumber (f .join)) (length (f .ranges))
 
 abbrev pub headerWord : Header → ℕ
-headerWord h = h .kind + 256 * (h .countP + 256 * (h .countQ + 256 * (h .trigger + 256 * h .time)))
+headerWord h = over 8 (h .kind) (over 8 (h .countP) (over 8 (h .countQ) (over 8 (h .trigger) (h .time))))
 
 -- ---- tables
 

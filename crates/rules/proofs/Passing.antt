@@ -20,13 +20,15 @@ use Rattle.masks.proofs.Members.{mask-is}
 use Rattle.step.specs.declared.RuleState.{RuleState}
 use Rattle.step.specs.declared.Stepped.{Stepped}
 use Rattle.fragment.specs.Upto.{mapN}
+use Rattle.step.specs.declared.Standing.{Standing}
+use Rattle.step.specs.Standings.{isBroken, isOpen, isDue}
 use Rattle.step.specs.Steps.{actOf}
 use Rattle.words.specs.Words.{noState, Held, heldBy, Holds, withRules}
 use Rattle.words.proofs.Laws.{middle, upper, sixteen}
 use Rattle.words.proofs.Places.{mapN-alike, mapN-same, set-mapN, getD-mapN}
 use Rattle.rules.specs.declared.Masks.{Masks}
 use Rattle.rules.specs.Pass.{Marks, Notes, Waits, Tells, Steps, StepsAll, Passes}
-use Rattle.rules.specs.Pass.{brokenIn, openIn, dueIn, marksOf, stepsAt, waitedOf, ruleOf, isBroken, isOpen, isDue, stateAt, brokenAt, openAt, dueAt, passOf}
+use Rattle.rules.specs.Pass.{brokenIn, openIn, dueIn, marksOf, stepsAt, waitedOf, ruleOf, stateAt, brokenAt, openAt, dueAt, passOf}
 
 -- ---- one rule's marks
 
@@ -63,7 +65,7 @@ with-rule true mask r made h e = record {
 }
 with-rule false mask r made h e = record { members = λ k. ap (λ (m : ℕ). member m k) (e ∙ or-zero-r mask) ∙ sym (or-false (member mask k)) }
 
-module _ (all r k : ℕ) (rule : r < 16) where
+module _ (all r : ℕ) (k : Standing) (rule : r < 16) where
   abbrev b : ℕ
   b = cond (isBroken k) (2 ^ r) 0
 
@@ -112,7 +114,7 @@ first : (x y : Bool) → (x && y) ≡ true → x ≡ true
 first true y h = refl
 first false y h = h
 
-module _ (noted who : ℕ) (stands : ℕ → ℕ) where
+module _ (noted who : ℕ) (stands : ℕ → Standing) where
   -- the rules that have been seen
   abbrev seen : ℕ → ℕ → Bool
   seen todo k = member who k && not (member todo k)
@@ -147,7 +149,7 @@ module _ (noted who : ℕ) (stands : ℕ → ℕ) where
     pub seen-this : seen todo′ r ≡ true
     seen-this = seen-more r ∙ ap (λ (t : Bool). t || seen todo r) (eq-eqb r r refl)
 
-    gathers-more : (P : ℕ → Bool) (n m m′ s : ℕ) → r < 16 → s ≡ stands r → With m r (P s) m′
+    gathers-more : (P : Standing → Bool) (n m m′ : ℕ) (s : Standing) → r < 16 → s ≡ stands r → With m r (P s) m′
         → ((k : ℕ) → member m k ≡ (member n k || seen todo k && P (stands k))) → (k : ℕ) → member m′ k ≡ (member n k || seen todo′ k && P (stands k))
     gathers-more P n m m′ s rule e w h k =
         w .members k ∙ ap (λ (t : Bool). member m k || P s && (t && eqb k r)) (lt-ltb r 16 rule)
@@ -155,7 +157,7 @@ module _ (noted who : ℕ) (stands : ℕ → ℕ) where
         ∙ gathers (eqb k r) (seen todo k) (P (stands k)) (P s) (member n k) (λ f. ap P (e ∙ ap stands (sym (eqb-true k r f))))
         ∙ ap (λ (t : Bool). member n k || t && P (stands k)) (sym (seen-more k))
 
-  pub noting-more : {todo todo′ all made r s : ℕ} → Noting todo all → member todo r ≡ true → r < 16 → Less todo r todo′ → s ≡ stands r → Marks all r s made → Noting todo′ made
+  pub noting-more : {todo todo′ all made r : ℕ} {s : Standing} → Noting todo all → member todo r ≡ true → r < 16 → Less todo r todo′ → s ≡ stands r → Marks all r s made → Noting todo′ made
   noting-more {todo} {todo′} {all} {made} {r} {s} p inside rule left e w = record {
     within = λ k h. p .within k (first (member todo k) (not (eqb k r)) (sym (left .members k) ∙ h));
     broke = gathers-more (p .within) inside left isBroken (brokenIn noted) (brokenIn all) (brokenIn made) s rule e (w .broke) (p .broke);
@@ -177,7 +179,7 @@ module _ (noted who : ℕ) (stands : ℕ → ℕ) where
 -- ---- where they step
 
 module _ (table : List ℕ) (noted who name time : ℕ) (m : Held) where
-  abbrev stands : ℕ → ℕ
+  abbrev stands : ℕ → Standing
   stands k = actOf table k (getD (m .rules) k noState) name time .standing
 
   abbrev seenState : ℕ → ℕ → RuleState → RuleState
@@ -208,7 +210,7 @@ module _ (table : List ℕ) (noted who name time : ℕ) (m : Held) where
     this : actOf table r (getD (m .rules) r noState) name time .state ≡ seenState todo′ r (getD (m .rules) r noState)
     this = rw (seen-this noted who stands (p .notes .within) inside left)
 
-    pub stepping-more : {after : List ℕ} {made s : ℕ} → ((k : Held) → Holds words k → Steps (actOf table r (getD (k .rules) r noState) name time) r k s after) → Marks all r s made
+    pub stepping-more : {after : List ℕ} {made : ℕ} {s : Standing} → ((k : Held) → Holds words k → Steps (actOf table r (getD (k .rules) r noState) name time) r k s after) → Marks all r s made
         → Stepping after todo′ made
     stepping-more st w = let t = rw was at (st _ (p .holds)) in record {
       many = p .many;
@@ -230,19 +232,19 @@ module _ (table : List ℕ) (noted who name time : ℕ) (m : Held) where
 -- ---- one observation
 
 -- the rules held to a deadline and those that step, as those that are looked at; c if a rule has the name, d if its deadline runs
-either : (c d : Bool) (x y : Stepped) (P : ℕ → Bool) → ((false || (d && not c) && P (y .standing)) || c && P (x .standing)) ≡ ((c || d) && P (cond c x y .standing))
+either : (c d : Bool) (x y : Stepped) (P : Standing → Bool) → ((false || (d && not c) && P (y .standing)) || c && P (x .standing)) ≡ ((c || d) && P (cond c x y .standing))
 either true true x y P = refl
 either true false x y P = refl
 either false true x y P = or-false (P (y .standing))
 either false false x y P = refl
 
-opens-either : (c d o : Bool) (x y : Stepped) (P : ℕ → Bool)
+opens-either : (c d o : Bool) (x y : Stepped) (P : Standing → Bool)
     → (o && not (c || d) || ((false || (d && not c) && P (y .standing)) || c && P (x .standing))) ≡ cond (c || d) (P (cond c x y .standing)) o
 opens-either true d o x y P = rw (and-false o, and-false d)
 opens-either false true o x y P = rw (and-false o, or-false (P (y .standing)))
 opens-either false false o x y P = rw (and-true o, or-false o)
 
-state-either : (c d : Bool) (x : Stepped) (st : RuleState) (standing : ℕ) → cond c (x .state) st ≡ cond (c || d) (cond c x (record { state = st; standing = standing }) .state) st
+state-either : (c d : Bool) (x : Stepped) (st : RuleState) (standing : Standing) → cond c (x .state) st ≡ cond (c || d) (cond c x (record { state = st; standing = standing }) .state) st
 state-either true d x st k = refl
 state-either false true x st k = refl
 state-either false false x st k = refl
@@ -255,7 +257,7 @@ looks {table} {concerned} {opens} {dues} {name} {time} {m = m} {who} {held = hel
     let acted : ℕ → Stepped = λ k. actOf table k (getD (m .rules) k noState) name time in
     let waits : ℕ → Stepped = λ k. waitedOf table k (getD (m .rules) k noState) time in
     let h = subst (λ (x : Held). Waits table who time (x .rules) held) (holds .held) waited in
-    let members : (f : ℕ → ℕ) (P : ℕ → Bool) → ((k : ℕ) → member (f held) k ≡ (member (f 0) k || member who k && P (waits k .standing)))
+    let members : (f : ℕ → ℕ) (P : Standing → Bool) → ((k : ℕ) → member (f held) k ≡ (member (f 0) k || member who k && P (waits k .standing)))
     → ((k : ℕ) → member (f all) k ≡ (member (f held) k || member concerned k && P (acted k .standing))) → f 0 ≡ 0
     → (k : ℕ) → member (f all) k ≡ ((false || (member dues k && not (member concerned k)) && P (waits k .standing)) || member concerned k && P (acted k .standing)) =
     λ f P x y z k. y k ∙ ap (λ (t : Bool). t || member concerned k && P (acted k .standing))

@@ -4,7 +4,6 @@ use mathlib.Core.Path.{_≡_}
 use mathlib.Core.Bool.{Bool, cond, _&&_, _||_}
 use mathlib.Core.List.{List}
 use Prim.Native.Nat.{ℕ, _+_, _*_, _/_, _%_, _^_, _<_}
-use lib.Dec.{eqb}
 use lib.ListN.{getD, set}
 use Rattle.names.specs.Names.{member}
 use Rattle.step.specs.declared.RuleState.{RuleState}
@@ -14,24 +13,18 @@ use Rattle.rules.specs.declared.Masks.{Masks}
 use Rattle.masks.specs.Masks.{maskN, Union, With}
 use Rattle.fragment.specs.Upto.{mapN}
 use Rattle.tables.specs.Cells.{limitAt, limitIn}
-use Rattle.deadline.specs.Deadlines.{dueOf}
+use Rattle.deadline.specs.Deadlines.{overdueOf}
+use Rattle.step.specs.declared.Standing.{Standing}
+use Rattle.step.specs.declared.Standing.the-variants.{Due, Broken}
+use Rattle.step.specs.Standings.{isBroken, isOpen, isDue}
 use Rattle.step.specs.Steps.{actOf}
 
 -- a rule that is held to its deadline; at an observation a rule is that, or it steps (`actOf`), at an event on one of its names
 abbrev pub waitedOf : List ℕ → ℕ → RuleState → ℕ → Stepped
-waitedOf table r st time = record { state = st; standing = dueOf (limitIn (getD table (limitAt r) 0)) (st .end) time }
+waitedOf table r st time = record { state = st; standing = cond (overdueOf (limitIn (getD table (limitAt r) 0)) (st .end) time) Broken Due }
 
 unfoldable pub ruleOf : List ℕ → ℕ → ℕ → RuleState → ℕ → ℕ → Stepped
 ruleOf table concerned r st name time = cond (member concerned r) (actOf table r st name time) (waitedOf table r st time)
-
-abbrev pub isBroken : ℕ → Bool
-isBroken k = eqb k 3
-
-abbrev pub isOpen : ℕ → Bool
-isOpen k = eqb k 1 || eqb k 2
-
-abbrev pub isDue : ℕ → Bool
-isDue k = eqb k 2
 
 -- what one observation made of the rules: their states, and the masks of those that broke, are open, and have a deadline that runs
 pub record Pass : Type 0 where
@@ -48,7 +41,7 @@ module _ (table : List ℕ) (concerned opens dues : ℕ) (old : List RuleState) 
   abbrev pub stepOf : ℕ → RuleState → Stepped
   stepOf r st = ruleOf table concerned r st name time
 
-  abbrev pub standingAt : ℕ → ℕ
+  abbrev pub standingAt : ℕ → Standing
   standingAt r = stepOf r (getD old r noState) .standing
 
   abbrev pub stateAt : ℕ → RuleState → RuleState
@@ -83,17 +76,17 @@ abbrev pub dueIn : ℕ → ℕ
 dueIn all = all / 4294967296 % 65536
 
 -- how a rule stands, as the lowest bits of the three
-unfoldable pub marksOf : ℕ → ℕ
+unfoldable pub marksOf : Standing → ℕ
 marksOf k = cond (isBroken k) 1 0 + 65536 * cond (isOpen k) 1 0 + 4294967296 * cond (isDue k) 1 0
 
 -- the masks of a word with rule r in those that its standing says
-pub record Marks (all r standing made : ℕ) : Type 0 where
+pub record Marks (all r : ℕ) (standing : Standing) (made : ℕ) : Type 0 where
   pub broke : With (brokenIn all) r (isBroken standing) (brokenIn made)
   pub opened : With (openIn all) r (isOpen standing) (openIn made)
   pub due : With (dueIn all) r (isDue standing) (dueIn made)
 
 -- the masks of a word, with those rules of `who` in each that their standing says
-pub record Notes (noted who : ℕ) (stands : ℕ → ℕ) (all : ℕ) : Type 0 where
+pub record Notes (noted who : ℕ) (stands : ℕ → Standing) (all : ℕ) : Type 0 where
   pub broke : (k : ℕ) → member (brokenIn all) k ≡ (member (brokenIn noted) k || member who k && isBroken (stands k))
   pub opened : (k : ℕ) → member (openIn all) k ≡ (member (openIn noted) k || member who k && isOpen (stands k))
   pub due : (k : ℕ) → member (dueIn all) k ≡ (member (dueIn noted) k || member who k && isDue (stands k))
@@ -112,7 +105,7 @@ pub record Tells (all left : ℕ) (p : Masks) : Type 0 where
 -- ---- in the words of a monitor m
 
 -- rule r becomes s: how it stands, and the words that it leaves
-pub record Steps (s : Stepped) (r : ℕ) (m : Held) (standing : ℕ) (after : List ℕ) : Type 0 where
+pub record Steps (s : Stepped) (r : ℕ) (m : Held) (standing : Standing) (after : List ℕ) : Type 0 where
   pub stands : standing ≡ s .standing
   pub holds : Holds after (withRules m (set (m .rules) r (s .state)))
 

@@ -6,6 +6,7 @@ ghost use lib.ListN.{getD};
 ghost use Rattle.step.specs.Steps.{actOf};
 ghost use Rattle.words.specs.Words.{noState, Held, heldBy, Holds};
 ghost use Rattle.rules.specs.Pass.{marksOf, waitedOf, passOf, Marks, Steps, Waits, StepsAll, Tells, Passes};
+use step::Standing;
 use tables::Table;
 use words::Memory;
 
@@ -13,23 +14,19 @@ use words::Memory;
 
 // How a rule stands, as the lowest bits of three masks: of the rules that broke (bit 0), are open (16), and have a deadline that runs (32). Three masks in one word cost one shift and
 // one `or` for a rule, and one register.
-fn marks(standing: u8) -> u64
+fn marks(standing: Standing) -> u64
     ensures { λ r. ⌜ r ≡ marksOf standing ⌝ }
 {
-    if standing == 1 {
-        return 65536;
+    match standing {
+        Standing::Whole => 0,
+        Standing::Open => 65536,
+        Standing::Due => 4295032832,
+        Standing::Broken => 1,
     }
-    if standing == 2 {
-        return 4295032832;
-    }
-    if standing == 3 {
-        return 1;
-    }
-    0
 }
 
 // The three masks with rule r in those that its standing says.
-fn marked(all: u64, r: usize, standing: u8) -> u64
+fn marked(all: u64, r: usize, standing: Standing) -> u64
     requires { ⌜ r < 16 ⌝ }
     ensures { λ made. ⌜ Marks all r standing made ⌝ }
 {
@@ -39,7 +36,7 @@ fn marked(all: u64, r: usize, standing: u8) -> u64
 // ---- one rule
 
 // Rule r, which has the name, steps; how it then stands.
-fn stepped(table: &Table, m: &mut Memory, r: usize, name: u8, time: u32) -> u8
+fn stepped(table: &Table, m: &mut Memory, r: usize, name: u8, time: u32) -> Standing
     requires { ⌜ r < 16 ⌝ }
     ensures { λ k. ⌜ ((was : Held) → Holds (now (m .entry)) was → Steps (actOf (now (table .entry)) r (getD (was .rules) r noState) name time) r was k (now (m .exit))) ⌝ }
 {
@@ -51,12 +48,15 @@ fn stepped(table: &Table, m: &mut Memory, r: usize, name: u8, time: u32) -> u8
 }
 
 // How rule r, whose deadline runs, stands at a time. Its state stays.
-fn waited(table: &Table, m: &Memory, r: usize, time: u32) -> u8
+fn waited(table: &Table, m: &Memory, r: usize, time: u32) -> Standing
     requires { ⌜ r < 16 ⌝ }
     ensures { λ k. ⌜ k ≡ waitedOf (now (table .entry)) r (getD (heldBy (now (m .entry)) .rules) r noState) time .standing ⌝ }
 {
     let limit = tables::limit_in(table[tables::LIMITS + r]);
-    deadline::due(limit, words::end_of(m, r), time)
+    if deadline::overdue(limit, words::end_of(m, r), time) {
+        return Standing::Broken;
+    }
+    Standing::Due
 }
 
 // ---- the rules of a mask, one by one

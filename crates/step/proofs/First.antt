@@ -2,7 +2,7 @@
 -- Assumes nothing.
 use mathlib.Core.Path.{_≡_, refl, sym, _∙_, ap, subst}
 use mathlib.Core.Logic.{inl}
-use mathlib.Core.Bool.{Bool, true, false, _&&_, and-false}
+use mathlib.Core.Bool.{Bool, true, false, and-false}
 use mathlib.Core.List.{List, map}
 use Prim.Native.Nat.{ℕ, _≤_, _<_}
 use native.Mathlib.Omega.{arith}
@@ -12,26 +12,27 @@ use borrow.Author.Tests.{le-leb, lt-leb, ltb-true, ltb-false, eq-eqb, ne-eqb, eq
 use Rattle.pattern.specs.Lists.{In}
 use Rattle.pattern.specs.Meaning.{fragmentNames, Rule}
 use Rattle.pattern.specs.Recogniser.{State, idle, unbegun, own, sibling, move, moves, counts, notBegun, within}
-use Rattle.pattern.specs.Model.{roundOf, inTime, isOnce, fragmentAt, has, afterP, begin, atRest}
+use Rattle.pattern.specs.Model.{roundOf, inTime, fragmentAt, has, afterP, begin, atRest}
 use Rattle.pattern.specs.Model as M
 use Rattle.pattern.proofs.Basics.{isIn←}
 use Rattle.pattern.proofs.Running.{within-own, within-sibling}
 use Rattle.pattern.proofs.Keeps.{held}
 use Rattle.recogniser.specs.Numbers.{stateOf}
 use Rattle.layout.specs.Pages.{rangeAt}
-use Rattle.tables.specs.Cells.{fragmentIn, indexIn, roleIn, lessIn, isTimed, Cell}
+use Rattle.tables.specs.Cells.{fragmentIn, indexIn, lessIn, isTimed, frees, Cell}
 use Rattle.fragment.specs.Fragments.{zeros, begunOf}
 use Rattle.fragment.proofs.Bytes.{same-list}
 use Rattle.fragment.proofs.States.{begunAt, begun-length, begun-at}
 use Rattle.deadline.specs.Deadlines.{endOf}
 use Rattle.step.specs.declared.RuleState.{RuleState}
+use Rattle.step.specs.declared.Standing.the-variants.{Whole}
 use Rattle.step.specs.declared.Stepped.{Stepped}
 use Rattle.step.specs.Steps.{stoodOf, beginOf}
 use Rattle.step.specs.Shows.{Counting, freed, begun}
 use Rattle.step.proofs.Sound.{Sound}
 use Rattle.step.proofs.Indices.{moves-length, moves-at, moves-past, fresh-length, fresh-at, fresh-past, range-in}
 use Rattle.layout.proofs.Once.{in-names, same-range}
-use Rattle.step.proofs.Roles.{free-is, end-is}
+use Rattle.step.proofs.Flags.{end-is}
 use Rattle.step.proofs.Settled.{Linked, timely, settled}
 
 module _ {rule : Rule} (sound : Sound rule) (time : ℕ) where
@@ -113,13 +114,13 @@ module _ {rule : Rule} (sound : Sound rule) (time : ℕ) where
       abbrev o : RuleState
       o = record { fragment = fragmentIn cell; current = name; states = begunOf cell; count = 1; end = endOf cell end time }
 
-      begun-counts : (isOnce (rule .kind) && afterP rule n) ≡ false → Counting rule o B i
+      begun-counts : frees rule n ≡ false → Counting rule o B i
       begun-counts q = record {
         inside = hn;
         fragment = c .fragment;
         states = states-are ∙ sym (rw q);
         count = refl;
-        end = end-is sound n hn cell (c .role) end time;
+        end = end-is c end time;
         unfree = q;
         held = hi;
         current = e;
@@ -133,20 +134,18 @@ module _ {rule : Rule} (sound : Sound rule) (time : ℕ) where
 
       pub begin-linked : Linked rule time (beginOf cell name end time) B
       unfolding beginOf stoodOf
-      begin-linked = look (isOnce (rule .kind) && afterP rule n) refl
+      begin-linked = look (frees rule n) refl
         where
-          free : eqb (roleIn cell) 5 ≡ (isOnce (rule .kind) && afterP rule n)
-          free = free-is sound n hn cell (c .role)
-
-          look : (b : Bool) → (isOnce (rule .kind) && afterP rule n) ≡ b → Linked rule time (beginOf cell name end time) B
+          look : (b : Bool) → frees rule n ≡ b → Linked rule time (beginOf cell name end time) B
           look true q =
               let rests : atRest rule B ≡ true = rw q in
-              let is : beginOf cell name end time ≡ record { state = record { fragment = fragmentIn cell; current = name; states = zeros; count = 1; end = end }; standing = 0 } = rw (free, q) in
+              let rest : RuleState = record { fragment = fragmentIn cell; current = name; states = zeros; count = 1; end = end } in
+              let is : beginOf cell name end time ≡ record { state = rest; standing = Whole } = rw (c .frees, q) in
               subst (λ (x : Stepped). Linked rule time x B) (sym is) (record {
                 status = sym (rw rests);
                 due = λ z. sym (rw rests (and-false (isTimed (rule .kind))));
-                shows = λ z. freed (λ y. omega (arith, y)) q n i hn hi (sym (c .role) ∙ eqb-true (roleIn cell) 5 (free ∙ q)) e;
+                shows = λ z. freed (λ y. omega (arith, y)) q n i hn hi q e;
               })
           look false q =
-              let is : beginOf cell name end time ≡ stoodOf cell name (begunOf cell) 1 end time = rw (free, q) in
-              subst (λ (x : Stepped). Linked rule time x B) (sym is) (settled sound time o B i cell (begun-counts q) c (timely rule n end time t))
+              let is : beginOf cell name end time ≡ stoodOf cell name (begunOf cell) 1 end time = rw (c .frees, q) in
+              subst (λ (x : Stepped). Linked rule time x B) (sym is) (settled sound time (begun-counts q) c (timely rule n end time t))

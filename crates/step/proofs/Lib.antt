@@ -1,7 +1,7 @@
 mod Room
 mod Indices
 mod Ranges
-pub mod Roles
+pub mod Flags
 pub mod Status
 pub mod Settled
 mod First

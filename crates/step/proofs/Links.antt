@@ -21,9 +21,10 @@ use Rattle.pattern.proofs.Fragment.{Checked, start-count}
 use Rattle.pattern.proofs.Keeps.{Erred, stays-erred, held, moves-same, in-moved, after, late-errs, foreign-errs, passing-is, incomplete-errs}
 use Rattle.layout.specs.Layout.{timeOf}
 use Rattle.layout.specs.Pages.{rangeAt}
-use Rattle.tables.specs.Cells.{limitAt, cellAt, limitIn, isTimed, roleOf, preceding, Cell, HoldsRule}
-use Rattle.deadline.specs.Deadlines.{pastOf, lateOf}
+use Rattle.tables.specs.Cells.{limitAt, cellAt, limitIn, isTimed, frees, preceding, Cell, HoldsRule}
+use Rattle.deadline.specs.Deadlines.{overdueOf, lateOf}
 use Rattle.step.specs.declared.RuleState.{RuleState}
+use Rattle.step.specs.declared.Standing.the-variants.{Whole}
 use Rattle.step.specs.declared.Stepped.{Stepped}
 use Rattle.step.specs.Steps.{brokenOf, beginOf, longerOf, otherOf, passOf, cellIn, releasedOf, actOf}
 use Rattle.step.specs.Shows.{Counting, Shows, untouched, freed, begun, running}
@@ -31,7 +32,7 @@ use Rattle.step.proofs.Sound.{Sound}
 use Rattle.step.proofs.Indices.{fresh-length, fresh-at, slot-at, range-in}
 use Rattle.layout.proofs.Once.{same-range}
 use Rattle.step.proofs.Ranges as R
-use Rattle.step.proofs.Roles.{clash, not-leb, free-is, late-is, preceding-is, follow-inside, following-is}
+use Rattle.step.proofs.Flags.{clash, not-leb, late-is, preceding-is, follow-inside, following-is}
 use Rattle.step.proofs.Settled.{Linked, erred-linked}
 use Rattle.step.proofs.First.{has-it, begin-linked}
 use Rattle.step.proofs.Within.{longer-linked, other-linked}
@@ -79,11 +80,11 @@ module _ {table : List ℕ} {r : ℕ} {rule : Rule} (h : HoldsRule table r rule)
       cell-d = cell-of (S .fragment) j (st .current) (w .inside) (w .held) (w .current)
 
       late-here : lateOf (cellIn table r name) (limitIn (getD table (limitAt r) 0)) (st .end) time ≡ (afterP rule g && not (inTime (rule .kind) (S .end) time))
-      late-here = late-is sound g hg (cellIn table r name) (cell-c .role) (limitIn (getD table (limitAt r) 0)) (st .end) time (h .limit) ∙ ap (λ (x : ℕ). afterP rule g && not (inTime (rule .kind) x time)) (w .end)
+      late-here = late-is cell-c (limitIn (getD table (limitAt r) 0)) (st .end) time (h .limit) ∙ ap (λ (x : ℕ). afterP rule g && not (inTime (rule .kind) x time)) (w .end)
 
       -- a rule at a fragment that has begun is not released
       unreleased : releasedOf table r st ≡ false
-      unreleased = free-is sound (S .fragment) (w .inside) D′ (cell-d .role) ∙ w .unfree
+      unreleased = cell-d .frees ∙ w .unfree
 
       act-is : actOf table r st name time ≡ cond (afterP rule g && not (inTime (rule .kind) (S .end) time)) (brokenOf st) (cond (eqb g (S .fragment)) (cond (eqb name (st .current)) (longerOf C′ st name time) (otherOf C′ D′ st name time)) (passOf C′ D′ st name time))
       unfolding actOf
@@ -269,23 +270,25 @@ module _ {table : List ℕ} {r : ℕ} {rule : Rule} (h : HoldsRule table r rule)
 
   -- ---- a rule that is released
 
-  acts-freed : (st : RuleState) (S : M.RuleState) (name n i : ℕ) → (st .count ≡ 0 → ⊥) → released rule S ≡ true → n < length (roundOf rule) → i < size n → roleOf rule n ≡ 5 → st .current ≡ rangeAt rule n i .name → Linked rule time (actOf table r st name time) (step rule S (record { name = name; time = time }))
+  acts-freed : (st : RuleState) (S : M.RuleState) (name n i : ℕ) → (st .count ≡ 0 → ⊥) → released rule S ≡ true → n < length (roundOf rule) → i < size n → frees rule n ≡ true
+      → st .current ≡ rangeAt rule n i .name → Linked rule time (actOf table r st name time) (step rule S (record { name = name; time = time }))
   unfolding actOf
-  acts-freed st S name n i some free hn hi role e =
-      let is : actOf table r st name time ≡ record { state = st; standing = 0 } = rw (ne-eqb (st .count) 0 some, cell-of n i (st .current) hn hi e .role ∙ role) in
+  acts-freed st S name n i some free hn hi frees′ e =
+      let is : actOf table r st name time ≡ record { state = st; standing = Whole } = rw (ne-eqb (st .count) 0 some, cell-of n i (st .current) hn hi e .frees, frees′) in
       let same : step rule S (record { name = name; time = time }) ≡ S = rw free in
       let rests : atRest rule S ≡ true = rw free in
-      subst (λ (x : Stepped). Linked rule time x (step rule S (record { name = name; time = time }))) (sym is) (subst (λ (x : M.RuleState). Linked rule time (record { state = st; standing = 0 }) x) (sym same) (record {
+      subst (λ (x : Stepped). Linked rule time x (step rule S (record { name = name; time = time }))) (sym is)
+      (subst (λ (x : M.RuleState). Linked rule time (record { state = st; standing = Whole }) x) (sym same) (record {
         status = sym (rw rests);
         due = λ z. sym (rw rests (and-false (isTimed (rule .kind))));
-        shows = λ z. freed some free n i hn hi role e;
+        shows = λ z. freed some free n i hn hi frees′ e;
       }))
 
   -- ---- all of them
 
   pub acts : (st : RuleState) (S : M.RuleState) → Shows rule st S → (name : ℕ) → T (isIn name (namesOf rule)) → Linked rule time (actOf table r st name time) (step rule S (record { name = name; time = time }))
   acts st S (untouched z q) name m = let p = sound .named name m in subst (λ (x : M.RuleState). Linked rule time (actOf table r st name time) (step rule x (record { name = name; time = time }))) (sym q) (acts-fresh st name (p .n) (p .i) z (p .inside) (p .held) (p .is))
-  acts st S (freed some free n i hn hi role e) name m = acts-freed st S name n i some free hn hi role e
+  acts st S (freed some free n i hn hi frees′ e) name m = acts-freed st S name n i some free hn hi frees′ e
   acts st S (begun j w) name m = let p = sound .named name m in acts-begun st S j w name (p .n) (p .i) (p .inside) (p .held) (p .is)
 
 -- ---- a rule whose deadline runs
@@ -306,12 +309,11 @@ fresh-rests {rule} sound = is-true (atRest rule (fresh rule)) (either-r (release
 -- it has begun, and the end of P is the model's
 runs-end : {rule : Rule} → Sound rule → (st : RuleState) (S : M.RuleState) → Shows rule st S → running rule S ≡ true → st .end ≡ S .end
 runs-end {rule} sound st S (untouched z q) e = clash (sym (ap (λ (x : M.RuleState). running rule x) q ∙ rw (fresh-rests sound) (and-false (isTimed (rule .kind)))) ∙ e)
-runs-end {rule} sound st S (freed some free n i hn hi role y) e = let rests : atRest rule S ≡ true = rw free in clash (sym (rw rests (and-false (isTimed (rule .kind)))) ∙ e)
+runs-end {rule} sound st S (freed some free n i hn hi frees′ y) e = let rests : atRest rule S ≡ true = rw free in clash (sym (rw rests (and-false (isTimed (rule .kind)))) ∙ e)
 runs-end sound st S (begun j w) e = w .end
 
 -- so that it is held to the model's deadline
-pub held-to : {table : List ℕ} {r : ℕ} {rule : Rule} → HoldsRule table r rule → Sound rule → (st : RuleState) (S : M.RuleState) → Shows rule st S → running rule S ≡ true → (time : ℕ) → pastOf (limitIn (getD table (limitAt r) 0)) (st .end) time ≡ not (inTime (rule .kind) (S .end) time)
-unfolding pastOf
+pub held-to : {table : List ℕ} {r : ℕ} {rule : Rule} → HoldsRule table r rule → Sound rule → (st : RuleState) (S : M.RuleState) → Shows rule st S → running rule S ≡ true → (time : ℕ) → overdueOf (limitIn (getD table (limitAt r) 0)) (st .end) time ≡ not (inTime (rule .kind) (S .end) time)
 held-to {table} {r} {rule} h sound st S w e time = ap₂ (λ (t end : ℕ). ltb (end + t) time) (h .limit) (runs-end sound st S w e) ∙ look (rule .kind) (running-timed (isTimed (rule .kind)) (not (atRest rule S) && (not (erred (slotsOf rule S)) && pressed rule S)) e)
   where
     running-timed : (a b : Bool) → (a && b) ≡ true → a ≡ true

@@ -1,30 +1,30 @@
 -- A rule at a fragment that has begun, in time: its standing is the model's status. What is to be shown of a step, and that an error shows it.
 -- Assumes nothing.
 use mathlib.Core.Path.{_≡_, refl, sym, _∙_, ap}
-use mathlib.Core.Bool.{Bool, true, false, cond, and-false}
+use mathlib.Core.Bool.{Bool, true, false, cond, not, _&&_, _||_, and-false}
 use Prim.Native.Nat.{ℕ}
-use lib.Dec.{eqb}
 use Rattle.pattern.specs.Meaning.{Rule}
 use Rattle.pattern.specs.Recogniser.{erred, complete, canGrow}
-use Rattle.pattern.specs.Model.{inTime, afterP, slotsOf, joinOf, endAfter, atRest, statusAt, pressed}
+use Rattle.pattern.specs.Model.{inTime, isLast, afterP, slotsOf, joinOf, endAfter, atRest, statusAt, pressed}
 use Rattle.pattern.specs.Model as M
 use Rattle.pattern.proofs.Basics.{is-true, is-false}
 use Rattle.pattern.proofs.Standing.{itself}
 use Rattle.pattern.proofs.Keeps.{Erred}
-use Rattle.tables.specs.Cells.{roleOf, Cell}
+use Rattle.tables.specs.Cells.{isInQ, endsP, Cell}
 use Rattle.step.specs.declared.RuleState.{RuleState}
 use Rattle.step.specs.declared.Stepped.{Stepped}
-use Rattle.step.specs.Steps.{brokenOf, standingOf}
+use Rattle.step.specs.Standings.{statusOf, isBroken, isDue}
+use Rattle.step.specs.Steps.{brokenOf, finishedOf, spentOf, standingOf}
 use Rattle.step.specs.Shows.{Counting, Shows, begun, running}
 use Rattle.step.proofs.Sound.{Sound}
 use Rattle.step.proofs.Ranges as R
-use Rattle.step.proofs.Roles.{clash, statusIn, standingBy, status-by, running-by}
+use Rattle.step.proofs.Flags.{clash, standingBy, status-by, running-by}
 
 -- what is to be shown of a step
 pub record Linked (rule : Rule) (time : ℕ) (s : Stepped) (S : M.RuleState) : Type 0 where
-  pub status : statusIn (s .standing) ≡ statusAt rule S time
-  pub due : eqb (s .standing) 3 ≡ false → eqb (s .standing) 2 ≡ running rule S
-  pub shows : eqb (s .standing) 3 ≡ false → Shows rule (s .state) S
+  pub status : statusOf (s .standing) ≡ statusAt rule S time
+  pub due : isBroken (s .standing) ≡ false → isDue (s .standing) ≡ running rule S
+  pub shows : isBroken (s .standing) ≡ false → Shows rule (s .state) S
 
 -- an error
 pub erred-linked : (rule : Rule) (time : ℕ) (st : RuleState) (S : M.RuleState) → Erred rule S → Linked rule time (brokenOf st) S
@@ -42,25 +42,28 @@ timely rule n end time h = look (afterP rule n) h
     look true g = g refl
     look false g = is-true (inTime (rule .kind) time time) (itself (rule .kind) time)
 
-module _ {rule : Rule} (sound : Sound rule) (time : ℕ) where
-  -- ---- a state at which a fragment has begun, in time
+-- ---- a state at which a fragment has begun, in time
 
-  standing-is : (st : RuleState) (S : M.RuleState) (j cell : ℕ) → Counting rule st S j → Cell rule (S .fragment) j cell → standingOf cell (st .states) (st .count) ≡ standingBy (roleOf rule (S .fragment)) (complete (joinOf rule S) (S .count) (slotsOf rule S)) (canGrow (joinOf rule S) (S .count) (slotsOf rule S))
-  unfolding standingOf
-  standing-is st S j cell w c = rw (c .role, R.complete-is sound w cell c, R.grows-is sound w cell c)
+module _ {rule : Rule} (sound : Sound rule) (time : ℕ) {st : RuleState} {S : M.RuleState} {j cell : ℕ} (w : Counting rule st S j) (c : Cell rule (S .fragment) j cell) where
+  abbrev n : ℕ
+  n = S .fragment
 
-  pub settled : (st : RuleState) (S : M.RuleState) (j cell : ℕ) → Counting rule st S j → Cell rule (S .fragment) j cell → inTime (rule .kind) (S .end) time ≡ true → Linked rule time (record { state = st; standing = standingOf cell (st .states) (st .count) }) S
-  settled st S j cell w c t = record {
-    status = ap statusIn is ∙ status-by sound (S .fragment) (w .inside) C G (w .unfree) ∙ sym (rw (R.restless sound w, R.not-erred sound w, t, and-false (pressed rule S)));
-    due = λ z. ap (λ (k : ℕ). eqb k 2) is ∙ running-by sound (S .fragment) (w .inside) C G (w .unfree) ∙ sym (rw (R.restless sound w, R.not-erred sound w));
+  abbrev C : Bool
+  C = complete (joinOf rule S) (S .count) (slotsOf rule S)
+
+  abbrev G : Bool
+  G = canGrow (joinOf rule S) (S .count) (slotsOf rule S)
+
+  abbrev D : Bool
+  D = isInQ rule n || endsP rule n && (C && not G)
+
+  standing-is : standingOf cell (st .states) (st .count) ≡ standingBy (isLast rule n) C D
+  unfolding standingOf finishedOf spentOf
+  standing-is = rw (c .last, c .inQ, c .endsP, R.complete-is sound w cell c, R.grows-is sound w cell c)
+
+  pub settled : inTime (rule .kind) (S .end) time ≡ true → Linked rule time (record { state = st; standing = standingOf cell (st .states) (st .count) }) S
+  settled t = record {
+    status = ap statusOf standing-is ∙ status-by (isLast rule n) C D ∙ sym (rw (R.restless sound w, R.not-erred sound w, t, and-false (pressed rule S)));
+    due = λ z. ap isDue standing-is ∙ running-by sound n (w .inside) C G ∙ sym (rw (R.restless sound w, R.not-erred sound w));
     shows = λ z. begun j w;
   }
-    where
-      C : Bool
-      C = complete (joinOf rule S) (S .count) (slotsOf rule S)
-
-      G : Bool
-      G = canGrow (joinOf rule S) (S .count) (slotsOf rule S)
-
-      is : standingOf cell (st .states) (st .count) ≡ standingBy (roleOf rule (S .fragment)) C G
-      is = standing-is st S j cell w c

@@ -1,25 +1,22 @@
 -- What the clock can change of a rule's status: nothing, unless its deadline runs; then it is open up to the deadline and broken after it.
 -- Assumes nothing.
-use mathlib.Core.Path.{_≡_, refl}
+use mathlib.Core.Path.{_≡_, refl, sym}
 use mathlib.Core.Bool.{Bool, true, false, cond, not, _&&_}
 use Prim.Native.Nat.{ℕ, _≤_}
 use lib.ListN.{length}
 use borrow.Author.Tests.{lt-leb}
-use Rattle.pattern.proofs.Basics.{zero-one}
 use Rattle.pattern.specs.Meaning.{Kind, once, repeated, timed, Rule, broken, open′}
 use Rattle.pattern.specs.Recogniser.{erred, complete}
 use Rattle.tables.specs.Cells.{isTimed}
 use Rattle.pattern.specs.Model.{RuleState, inTime, isLast, afterP, slotsOf, joinOf, atRest, pressed, statusAt}
 use Rattle.step.specs.Shows.{running}
-
-clash : {A : Type 0} → false ≡ true → A
-clash e = let z : _≡_ {A = ℕ} 0 1 = cc in absurd (zero-one z)
+use Rattle.step.proofs.Flags.{clash}
 
 -- kinds 0 and 1 are always in time
 always : (k : Kind) → isTimed k ≡ false → (end now : ℕ) → inTime k end now ≡ true
 always (once i) e end now = refl
 always (repeated i) e end now = refl
-always (timed q t) e end now = let z : _≡_ {A = ℕ} 0 1 = cc in absurd (zero-one z)
+always (timed q t) e end now = clash (sym e)
 
 module _ (r : Rule) (st : RuleState) where
   still : (k a e p : Bool) → isTimed (r .kind) ≡ k → atRest r st ≡ a → erred (slotsOf r st) ≡ e → pressed r st ≡ p → (k && (not a && (not e && p))) ≡ false → (now now′ : ℕ) → statusAt r st now ≡ statusAt r st now′
@@ -27,7 +24,7 @@ module _ (r : Rule) (st : RuleState) where
   still k false true p qk qa qe qp h now now′ = rw (qa, qe)
   still k false false false qk qa qe qp h now now′ = rw (qa, qe, qp)
   still false false false true qk qa qe qp h now now′ = rw (qa, qe, qp, always (r .kind) qk (st .end) now, always (r .kind) qk (st .end) now′)
-  still true false false true qk qa qe qp h now now′ = let z : _≡_ {A = ℕ} 0 1 = cc in absurd (zero-one z)
+  still true false false true qk qa qe qp h now now′ = clash (sym h)
 
   -- no deadline runs: the time plays no part
   pub time-alone : running r st ≡ false → (now now′ : ℕ) → statusAt r st now ≡ statusAt r st now′

@@ -33,7 +33,7 @@ use Rattle.step.specs.Shows.{Counting, begun}
 use Rattle.step.proofs.Sound.{Sound}
 use Rattle.step.proofs.Indices.{moves-length, moves-at, moves-past, slot-at, range-in}
 use Rattle.step.proofs.Ranges as R
-use Rattle.step.proofs.Roles.{end-is}
+use Rattle.step.proofs.Flags.{end-is}
 use Rattle.step.proofs.Settled.{Linked, erred-linked, timely, settled}
 use Rattle.step.proofs.First.{own-at, sibling-at, has-it}
 
@@ -131,7 +131,7 @@ module _ {rule : Rule} (sound : Sound rule) (time : ℕ) where
               let is : longerOf cell st (st .current) time ≡ stoodOf cell (st .current) (st .states) (st .count + 1) (st .end) time = rw (own-moved true q) in
               subst (λ (x : Stepped). Linked rule time x (step rule S (record { name = st .current; time = time }))) (sym is)
               (subst (λ (x : M.RuleState). Linked rule time (stoodOf cell (st .current) (st .states) (st .count + 1) (st .end) time) x) (sym (step-is (st .current) hs in-time))
-              (settled sound time o (N (st .current)) j cell w′ c (timely rule (S .fragment) (S .end) time t)))
+              (settled sound time w′ c (timely rule (S .fragment) (S .end) time t)))
             where
               o : RuleState
               o = record { fragment = fragmentIn cell; current = st .current; states = st .states; count = st .count + 1; end = endOf cell (st .end) time }
@@ -153,7 +153,7 @@ module _ {rule : Rule} (sound : Sound rule) (time : ℕ) where
                 fragment = c .fragment;
                 states = w .states ∙ sym same;
                 count = add-one (st .count) ∙ ap suc (w .count) ∙ sym (count-longer (fragmentAt rule (S .fragment) .join) rs (sound .fine (S .fragment) (w .inside)) (slotsOf rule S) (S .count) r₀ (R.runs sound w) (st .current) (w .current) (omega (arith, more)));
-                end = ap (λ (x : ℕ). endOf cell x time) (w .end) ∙ end-is sound (S .fragment) (w .inside) cell (c .role) (S .end) time;
+                end = ap (λ (x : ℕ). endOf cell x time) (w .end) ∙ end-is c (S .end) time;
                 unfree = w .unfree;
                 held = w .held;
                 current = w .current;
@@ -270,7 +270,7 @@ module _ {rule : Rule} (sound : Sound rule) (time : ℕ) where
           fragment = cc′ .fragment;
           states = begun-states;
           count = sym count-is;
-          end = ap (λ (x : ℕ). endOf c x time) (w .end) ∙ end-is sound (S .fragment) (w .inside) c (cc′ .role) (S .end) time;
+          end = ap (λ (x : ℕ). endOf c x time) (w .end) ∙ end-is cc′ (S .end) time;
           unfree = w .unfree;
           held = hi;
           current = e;
@@ -297,4 +297,4 @@ module _ {rule : Rule} (sound : Sound rule) (time : ℕ) where
               let is : otherOf c d st name time ≡ stoodOf c name x′ 1 (st .end) time = rw (waiting-moved q, old-moved true qb) in
               subst (λ (x : Stepped). Linked rule time x (step rule S (record { name = name; time = time }))) (sym is)
               (subst (λ (x : M.RuleState). Linked rule time (stoodOf c name x′ 1 (st .end) time) x) (sym (step-is name hs′ in-time′))
-              (settled sound time (o′ q qb) (N name) i c (begun-other q qb) cc′ (timely rule (S .fragment) (S .end) time t)))
+              (settled sound time (begun-other q qb) cc′ (timely rule (S .fragment) (S .end) time t)))

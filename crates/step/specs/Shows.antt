@@ -12,7 +12,7 @@ use Rattle.pattern.specs.Model.{roundOf, fragmentAt, slotsOf, released, fresh, 
 use Rattle.pattern.specs.Model as M
 use Rattle.recogniser.specs.Numbers.{stateOf}
 use Rattle.layout.specs.Pages.{rangeAt}
-use Rattle.tables.specs.Cells.{isTimed, roleOf}
+use Rattle.tables.specs.Cells.{isTimed, frees}
 use Rattle.step.specs.declared.RuleState.{RuleState}
 
 -- ---- a state
@@ -40,7 +40,8 @@ pub data Shows (rule : Rule) (st : RuleState) (S : M.RuleState) : Type 0 where
   -- nothing has come
   untouched : st .count ≡ 0 → S ≡ fresh rule → Shows rule st S
   -- the trigger of kind 0 has come
-  freed : (st .count ≡ 0 → ⊥) → released rule S ≡ true → (n i : ℕ) → n < length (roundOf rule) → i < length (fragmentAt rule n .ranges) → roleOf rule n ≡ 5 → st .current ≡ rangeAt rule n i .name → Shows rule st S
+  freed : (st .count ≡ 0 → ⊥) → released rule S ≡ true
+      → (n i : ℕ) → n < length (roundOf rule) → i < length (fragmentAt rule n .ranges) → frees rule n ≡ true → st .current ≡ rangeAt rule n i .name → Shows rule st S
   begun : (j : ℕ) → Counting rule st S j → Shows rule st S
 
 -- ---- the deadline

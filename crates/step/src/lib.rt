@@ -3,7 +3,7 @@
 // range and of the fragment. A name and a rule's number are reduced by a remainder, so that nothing is asked of them, of the table or of the state.
 ghost use mathlib.Core.Path.{_≡_};
 ghost use Prim.Native.Nat.{_%_};
-ghost use Rattle.step.specs.Steps.{brokenOf, standingOf, stoodOf, beginOf, movedBy, longerOf, otherOf, passOf, cellIn, releasedOf, actOf};
+ghost use Rattle.step.specs.Steps.{brokenOf, finishedOf, spentOf, standingOf, stoodOf, beginOf, movedBy, longerOf, otherOf, passOf, cellIn, releasedOf, actOf};
 use tables::Table;
 
 // "The monitor's state holds, for each rule, its fragment number, eight recogniser states, one count and the end time of P." Beside them the name whose range counts, by which its cell is
@@ -16,10 +16,18 @@ pub struct RuleState {
     pub end: u32,
 }
 
-// A rule's state after an event, and how the rule stands: 0 whole, 1 open, 2 open and a deadline runs, 3 broken.
+// How a rule stands: whole, open, open with a deadline that runs, or broken.
+pub enum Standing {
+    Whole,
+    Open,
+    Due,
+    Broken,
+}
+
+// A rule's state after an event, and how the rule stands.
 pub struct Stepped {
     pub state: RuleState,
-    pub standing: u8,
+    pub standing: Standing,
 }
 
 // An error. The book stops, and the state is not looked at any more.
@@ -28,46 +36,56 @@ fn broken(st: RuleState) -> Stepped
 {
     Stepped {
         state: st,
-        standing: 3,
+        standing: Standing::Broken,
     }
 }
 
 // ---- after an event that is no error
 
-// How the rule stands, by the role of the fragment (`tables/specs/Cells`). The ranges are asked only where it may be at an end.
-fn standing(cell: u64, states: [u8; 8], count: u16) -> u8
+// The round is complete. The ranges are asked only in its last fragment.
+fn finished(cell: u64, states: [u8; 8], count: u16) -> bool
+    ensures { λ r. ⌜ r ≡ finishedOf cell states count ⌝ }
+{
+    if tables::is_last(cell) {
+        return fragment::complete(cell, states, count);
+    }
+    false
+}
+
+// A P that a deadline follows is complete and cannot grow: any further event would have to be of Q. The ranges are asked only in its last fragment.
+fn spent(cell: u64, states: [u8; 8], count: u16) -> bool
+    ensures { λ r. ⌜ r ≡ spentOf cell states count ⌝ }
+{
+    if tables::ends_p(cell) {
+        if fragment::complete(cell, states, count) {
+            return !fragment::grows(cell, states, count);
+        }
+        return false;
+    }
+    false
+}
+
+// How the rule stands: whole at the end of a round; the deadline runs in Q up to that, and from a P that is spent.
+fn stands(cell: u64, states: [u8; 8], count: u16) -> Standing
     ensures { λ r. ⌜ r ≡ standingOf cell states count ⌝ }
 {
-    let role = tables::role_in(cell);
-    if role == 0 {
-        return 1;
+    if finished(cell, states, count) {
+        return Standing::Whole;
     }
-    if role == 2 {
-        return 2;
+    if tables::in_q(cell) {
+        return Standing::Due;
     }
-    if role == 1 {
-        if fragment::complete(cell, states, count) {
-            if fragment::grows(cell, states, count) {
-                return 1;
-            }
-            return 2;
-        }
-        return 1;
+    if spent(cell, states, count) {
+        return Standing::Due;
     }
-    if fragment::complete(cell, states, count) {
-        return 0;
-    }
-    if role == 3 {
-        return 2;
-    }
-    1
+    Standing::Open
 }
 
 // The rule stands at the cell's fragment, whose range counts.
 fn stood(cell: u64, name: u8, states: [u8; 8], count: u16, end: u32, time: u32) -> Stepped
     ensures { λ s. ⌜ s ≡ stoodOf cell name states count end time ⌝ }
 {
-    let k = standing(cell, states, count);
+    let k = stands(cell, states, count);
     Stepped {
         state: RuleState {
             fragment: tables::fragment_in(cell),
@@ -86,7 +104,7 @@ fn stood(cell: u64, name: u8, states: [u8; 8], count: u16, end: u32, time: u32) 
 fn begins(cell: u64, name: u8, end: u32, time: u32) -> Stepped
     ensures { λ s. ⌜ s ≡ beginOf cell name end time ⌝ }
 {
-    if tables::role_in(cell) == 5 {
+    if tables::frees(cell) {
         return Stepped {
             state: RuleState {
                 fragment: tables::fragment_in(cell),
@@ -95,7 +113,7 @@ fn begins(cell: u64, name: u8, end: u32, time: u32) -> Stepped
                 count: 1,
                 end: end,
             },
-            standing: 0,
+            standing: Standing::Whole,
         };
     }
     let states = fragment::begun(cell);
@@ -176,7 +194,7 @@ fn released(table: &Table, r: usize, st: RuleState) -> bool
     ensures { λ b. ⌜ b ≡ releasedOf (now (table .entry)) (r % 16) st ⌝ }
 {
     let cell = cell_at(table, r, st.current);
-    tables::role_in(cell) == 5
+    tables::frees(cell)
 }
 
 // An event on one of rule r's names.
@@ -193,7 +211,7 @@ pub fn act(table: &Table, r: usize, st: RuleState, name: u8, time: u32) -> Stepp
     if released(table, r, st) {
         return Stepped {
             state: st,
-            standing: 0,
+            standing: Standing::Whole,
         };
     }
     let d = cell_at(table, r, st.current);

@@ -2,10 +2,11 @@
 -- Assumes nothing.
 use mathlib.Core.Path.{_≡_, refl}
 use mathlib.Core.Bool.{Bool, true, false, cond}
-use Prim.Native.Nat.{ℕ, _+_, _/_, _≤_}
+use Prim.Native.Nat.{ℕ, _+_, _≤_}
 use native.Mathlib.Omega.{arith}
 use lib.Dec.{ltb}
 use borrow.Author.Tests.{le-ltb, ltb-false}
+use Rattle.bits.specs.Bits.{part}
 use Rattle.layout.specs.Reading.{byKind}
 use Rattle.tables.specs.Words.{cap, mostRanges, kindIn, countPIn, countQIn, roundIn, countIn}
 
@@ -25,4 +26,4 @@ round-small head = cap-small 16 (countPIn head + byKind (kindIn head) (countQIn 
 
 pub count-small : (word : ℕ) → countIn word ≤ 8
 unfolding countIn
-count-small word = let h : cap mostRanges (word / 256) ≤ mostRanges = cap-small mostRanges (word / 256) in omega (arith, h)
+count-small word = let h : cap mostRanges (part 8 8 word) ≤ mostRanges = cap-small mostRanges (part 8 8 word) in omega (arith, h)

@@ -1,74 +1,86 @@
 -- A rule's cells: for each of its names one number that says all that an event on that name asks of the sheet. It is what observing looks up, in place of the sheet's own tables.
+-- Each of its fields has one owner: the order of the rule's fragments, the fragment with its ranges, or the clock.
 -- Assumes nothing.
 use mathlib.Core.Path.{_≡_}
-use mathlib.Core.Bool.{Bool, true, false, cond, _&&_}
+use mathlib.Core.Bool.{Bool, true, false, cond, not, _&&_}
 use mathlib.Core.List.{List}
-use Prim.Native.Nat.{ℕ, suc, _+_, _-_, _*_, _/_, _%_, _<_}
+use Prim.Native.Nat.{ℕ, suc, _+_, _-_, _*_, _%_, _<_}
 use lib.Dec.{eqb, ltb}
 use lib.ListN.{length, getD}
+use Rattle.bits.specs.Bits.{part, flagAt}
 use Rattle.names.specs.Names.{member}
 use Rattle.pattern.specs.Lists.{isIn}
 use Rattle.pattern.specs.Meaning.{Fragment, Kind, once, repeated, timed, Rule, namesOf}
-use Rattle.pattern.specs.Model.{roundOf, fragmentAt, isLast, afterP}
+use Rattle.pattern.specs.Model.{roundOf, isOnce, fragmentAt, isLast, afterP}
 use Rattle.layout.specs.Layout.{joinNumber, timeOf}
 use Rattle.layout.specs.Pages.{ruleAt, rangeAt}
 
 -- ---- what a cell holds
 
--- the fragment of the name's range, and the range's place in it
+-- of the order: the fragment of the name's range, the one that it follows, whether it is the last of its round, and whether its event releases the rule
 abbrev pub fragmentIn : ℕ → ℕ
-fragmentIn cell = cell % 16
+fragmentIn cell = part 0 4 cell
 
-abbrev pub indexIn : ℕ → ℕ
-indexIn cell = cell / 16 % 8
-
--- the fragment's role in its round
-abbrev pub roleIn : ℕ → ℕ
-roleIn cell = cell / 128 % 8
-
--- the fragment that it follows
 abbrev pub beforeIn : ℕ → ℕ
-beforeIn cell = cell / 1024 % 16
+beforeIn cell = part 4 4 cell
 
--- whether no other range of the fragment need come (1), and the fragment's count of ranges less one
-abbrev pub looseIn : ℕ → ℕ
-looseIn cell = cell / 16384 % 2
+abbrev pub lastIn : ℕ → Bool
+lastIn cell = flagAt 8 cell
+
+abbrev pub freesIn : ℕ → Bool
+freesIn cell = flagAt 9 cell
+
+-- of the fragment: the range's place in it, its count of ranges less one, its join, and whether no other range of it need come (1)
+abbrev pub indexIn : ℕ → ℕ
+indexIn cell = part 10 3 cell
 
 abbrev pub lessIn : ℕ → ℕ
-lessIn cell = cell / 32768 % 8
+lessIn cell = part 13 3 cell
+
+abbrev pub joinOfCell : ℕ → ℕ
+joinOfCell cell = part 16 2 cell
+
+abbrev pub looseIn : ℕ → ℕ
+looseIn cell = part 18 1 cell
+
+-- of the clock: whether the fragment is in P, whether it is in Q, and whether it is the last of a P that a deadline follows
+abbrev pub inPIn : ℕ → Bool
+inPIn cell = flagAt 19 cell
+
+abbrev pub inQIn : ℕ → Bool
+inQIn cell = flagAt 20 cell
+
+abbrev pub endsPIn : ℕ → Bool
+endsPIn cell = flagAt 21 cell
 
 -- the range's u and v
 abbrev pub leastIn : ℕ → ℕ
-leastIn cell = cell / 4294967296 % 65536
+leastIn cell = part 32 16 cell
 
 abbrev pub mostIn : ℕ → ℕ
-mostIn cell = cell / 281474976710656 % 65536
+mostIn cell = part 48 16 cell
 
--- the number that holds these eight
-abbrev pub cellOf : (fragment index role before loose less u v : ℕ) → ℕ
-cellOf fragment index role before loose less u v = fragment + 16 * index + 128 * role + 1024 * before + 16384 * loose + 32768 * less + 4294967296 * u + 281474976710656 * v
+-- ---- what a rule says of a fragment of its round
 
--- ---- roles
+-- its event releases the rule: it is the trigger of kind 0
+abbrev pub frees : Rule → ℕ → Bool
+frees r n = isOnce (r .kind) && afterP r n
 
 abbrev pub isTimed : Kind → Bool
 isTimed (once i) = false
 isTimed (repeated i) = false
 isTimed (timed q t) = true
 
--- after P: the trigger that releases a rule of kind 0 (5), that of a rule of kind 1 (4), the last of Q (3), or one of Q before it (2)
-abbrev pub roleAfter : Kind → Bool → ℕ
-roleAfter (once i) last = 5
-roleAfter (repeated i) last = 4
-roleAfter (timed q t) last = cond last 3 2
+abbrev pub isInP : Rule → ℕ → Bool
+isInP r n = not (afterP r n)
 
--- in P: its last, where a deadline follows it (1), or any other (0)
-abbrev pub roleInP : Kind → Bool → ℕ
-roleInP (once i) last = 0
-roleInP (repeated i) last = 0
-roleInP (timed q t) last = cond last 1 0
+-- it is held to the deadline
+abbrev pub isInQ : Rule → ℕ → Bool
+isInQ r n = isTimed (r .kind) && afterP r n
 
-unfoldable pub roleOf : Rule → ℕ → ℕ
-roleOf r n = cond (afterP r n) (roleAfter (r .kind) (isLast r n)) (roleInP (r .kind) (afterP r (suc n)))
+-- the deadline follows it
+abbrev pub endsP : Rule → ℕ → Bool
+endsP r n = isTimed (r .kind) && (not (afterP r n) && afterP r (suc n))
 
 -- "the first fragment follows the last"
 unfoldable pub preceding : Rule → ℕ → ℕ
@@ -82,14 +94,22 @@ looseOf f = cond (eqb (length (f .ranges)) 1) 1 (joinNumber (f .join))
 
 -- the cell of range i of fragment n
 pub record Cell (r : Rule) (n i cell : ℕ) : Type 0 where
+  -- the order's
   pub fragment : fragmentIn cell ≡ n
-  pub index : indexIn cell ≡ i
-  pub role : roleIn cell ≡ roleOf r n
   pub before : beforeIn cell ≡ preceding r n
-  pub loose : looseIn cell ≡ looseOf (fragmentAt r n)
+  pub last : lastIn cell ≡ isLast r n
+  pub frees : freesIn cell ≡ frees r n
+  -- the fragment's
+  pub index : indexIn cell ≡ i
   pub less : suc (lessIn cell) ≡ length (fragmentAt r n .ranges)
+  pub join : joinOfCell cell ≡ joinNumber (fragmentAt r n .join)
+  pub loose : looseIn cell ≡ looseOf (fragmentAt r n)
   pub u : leastIn cell ≡ rangeAt r n i .u
   pub v : mostIn cell ≡ rangeAt r n i .v
+  -- the clock's
+  pub inP : inPIn cell ≡ isInP r n
+  pub inQ : inQIn cell ≡ isInQ r n
+  pub endsP : endsPIn cell ≡ endsP r n
 
 -- ---- the table of a book: at each name the mask of the rules that hold it; then each rule's t; then each rule's cells, by name
 

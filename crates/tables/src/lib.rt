@@ -4,7 +4,7 @@ ghost use mathlib.Core.Path.{_≡_};
 ghost use mathlib.Core.Bool.{cond};
 ghost use lib.Dec.{eqb};
 ghost use Prim.Native.Nat.{_<_};
-ghost use Rattle.tables.specs.Cells.{fragmentIn, indexIn, roleIn, beforeIn, looseIn, lessIn, leastIn, mostIn, maskIn, limitIn};
+ghost use Rattle.tables.specs.Cells.{fragmentIn, beforeIn, lastIn, freesIn, indexIn, lessIn, looseIn, leastIn, mostIn, inPIn, inQIn, endsPIn, maskIn, limitIn};
 ghost use Rattle.tables.specs.Words.{kindIn, countPIn, countQIn, triggerIn, timeIn, roundIn, joinIn, countIn, bitIn, lowIn, highIn};
 
 // ---- a rule's head
@@ -72,7 +72,7 @@ pub fn join(word: u16) -> u8
 pub fn ranges_in(word: u16) -> u8
     ensures { λ r. ⌜ r ≡ countIn word ⌝ }
 {
-    let n = word / 256;
+    let n = word / 256 % 256;
     if 8 < n {
         return 8;
     }
@@ -100,42 +100,50 @@ pub fn high(word: u64) -> u16
     (word / 16777216 % 65536) as u16
 }
 
-// ---- a cell: what a rule says of one of its names
+// ---- a cell: what a rule says of one of its names, by the owner of each field
 
+// The order's.
 pub fn fragment_in(cell: u64) -> u8
     ensures { λ r. ⌜ r ≡ fragmentIn cell ⌝ }
 {
     (cell % 16) as u8
 }
 
-pub fn index_in(cell: u64) -> u8
-    ensures { λ r. ⌜ r ≡ indexIn cell ⌝ }
-{
-    (cell / 16 % 8) as u8
-}
-
-pub fn role_in(cell: u64) -> u8
-    ensures { λ r. ⌜ r ≡ roleIn cell ⌝ }
-{
-    (cell / 128 % 8) as u8
-}
-
 pub fn before_in(cell: u64) -> u8
     ensures { λ r. ⌜ r ≡ beforeIn cell ⌝ }
 {
-    (cell / 1024 % 16) as u8
+    (cell / 16 % 16) as u8
 }
 
-pub fn loose_in(cell: u64) -> u8
-    ensures { λ r. ⌜ r ≡ looseIn cell ⌝ }
+pub fn is_last(cell: u64) -> bool
+    ensures { λ r. ⌜ r ≡ lastIn cell ⌝ }
 {
-    (cell / 16384 % 2) as u8
+    cell / 256 % 2 == 1
+}
+
+pub fn frees(cell: u64) -> bool
+    ensures { λ r. ⌜ r ≡ freesIn cell ⌝ }
+{
+    cell / 512 % 2 == 1
+}
+
+// The fragment's.
+pub fn index_in(cell: u64) -> u8
+    ensures { λ r. ⌜ r ≡ indexIn cell ⌝ }
+{
+    (cell / 1024 % 8) as u8
 }
 
 pub fn less_in(cell: u64) -> u8
     ensures { λ r. ⌜ r ≡ lessIn cell ⌝ }
 {
-    (cell / 32768 % 8) as u8
+    (cell / 8192 % 8) as u8
+}
+
+pub fn loose_in(cell: u64) -> u8
+    ensures { λ r. ⌜ r ≡ looseIn cell ⌝ }
+{
+    (cell / 262144 % 2) as u8
 }
 
 pub fn least_in(cell: u64) -> u16
@@ -148,6 +156,25 @@ pub fn most_in(cell: u64) -> u16
     ensures { λ r. ⌜ r ≡ mostIn cell ⌝ }
 {
     (cell / 281474976710656 % 65536) as u16
+}
+
+// The clock's.
+pub fn in_p(cell: u64) -> bool
+    ensures { λ r. ⌜ r ≡ inPIn cell ⌝ }
+{
+    cell / 524288 % 2 == 1
+}
+
+pub fn in_q(cell: u64) -> bool
+    ensures { λ r. ⌜ r ≡ inQIn cell ⌝ }
+{
+    cell / 1048576 % 2 == 1
+}
+
+pub fn ends_p(cell: u64) -> bool
+    ensures { λ r. ⌜ r ≡ endsPIn cell ⌝ }
+{
+    cell / 2097152 % 2 == 1
 }
 
 // ---- the table of a book: at each name the mask of the rules that hold it; then each rule's t; then each rule's cells, by name

@@ -1,4 +1,5 @@
 -- `cells::cell_of` meets its contract. Assumes nothing.
+use native.Mathlib.Omega.{arith}
 use Rattle.cells.specs.Making.{cellWith}
 use borrow.Author.Needs.{needs}
 use Rattle.cells.proofs.cell_of.Statement.{statement}
@@ -36,7 +37,7 @@ add-result-3 c = search needs
 
 returns : tie.Need-returns
 unfolding cellWith
-returns c = rw (c .before .low .ensures, c .high .ensures)
+returns c = omega arith
 
 pub cell-of-spec : {M : Type 1} → statement M
 cell-of-spec = tie.close (tie.spec low-requires cast-low high-requires cast-high mul-result add-result mul-result-2 add-result-2 mul-result-3 add-result-3 returns)

@@ -5,6 +5,7 @@ use Prim.Native.Nat.{ℕ}
 use native.Mathlib.Omega.{arith}
 use denote.Ref.{now}
 use lib.ListN.{getD}
+use Rattle.step.specs.declared.Standing.{Standing}
 use Rattle.words.specs.Words.{noState, heldBy}
 use Rattle.rules.specs.Pass.{waitedOf}
 use Rattle.rules.proofs.Passing.{Noting, noting-start, noting-more, noting-end}
@@ -12,7 +13,7 @@ use borrow.Author.Needs.{needs}
 use Rattle.rules.proofs.all_waited.Statement.{statement}
 use Rattle.rules.proofs.all_waited.Tie as tie
 
-abbrev stands : (table words : List ℕ) (time k : ℕ) → ℕ
+abbrev stands : (table words : List ℕ) (time k : ℕ) → Standing
 stands table words time k = waitedOf table k (getD (heldBy words .rules) k noState) time .standing
 
 abbrev Inv-loop : tie.InvT-loop

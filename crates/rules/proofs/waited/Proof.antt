@@ -1,7 +1,5 @@
 -- `rules::waited` meets its contract: a rule's number is its own remainder by 16. Assumes nothing.
-use mathlib.Core.Path.{_≡_, _∙_}
-use Prim.Native.Nat.{_%_}
-use native.Mathlib.Omega.{arith}
+use native.Mathlib.Nat.{mod-eq-of-lt}
 use borrow.Author.Needs.{needs}
 use Rattle.rules.proofs.waited.Statement.{statement}
 use Rattle.rules.proofs.waited.Tie as tie
@@ -21,13 +19,18 @@ limit-in-requires c κs = search needs
 end-of-requires : tie.Need-end-of-requires
 end-of-requires c κs = search needs
 
-due-requires : tie.Need-due-requires
-due-requires c κs = search needs
+overdue-requires : tie.Need-overdue-requires
+overdue-requires c κs = search needs
 
 returns : tie.Need-returns
-returns c = let a = c .before .before .before .before .args in
-    let own : a .r % 16 ≡ a .r = omega (arith, c .before .before .before .before .pre) in
-    c .due .ensures ∙ rw (c .before .before .limit-in .ensures, c .before .end-of .ensures, own)
+returns c =
+    let past = rw (c .before .before .before .limit-in .ensures, c .before .before .end-of .ensures, mod-eq-of-lt (c .before .before .before .before .before .pre)) at (c .before .overdue .ensures) in
+    rw (← past, c .if1 .taken)
+
+returns-2 : tie.Need-returns-2
+returns-2 c =
+    let past = rw (c .before .before .before .limit-in .ensures, c .before .before .end-of .ensures, mod-eq-of-lt (c .before .before .before .before .before .pre)) at (c .before .overdue .ensures) in
+    rw (← past, c .if1 .left)
 
 pub waited-spec : {M : Type 1} → statement M
-waited-spec = tie.close (tie.spec add-limit-in mul-limit-in element-copy-out-limit-in limit-in-requires end-of-requires due-requires returns)
+waited-spec = tie.close (tie.spec add-limit-in mul-limit-in element-copy-out-limit-in limit-in-requires end-of-requires overdue-requires returns returns-2)

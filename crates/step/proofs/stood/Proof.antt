@@ -4,8 +4,8 @@ use borrow.Author.Needs.{needs}
 use Rattle.step.proofs.stood.Statement.{statement}
 use Rattle.step.proofs.stood.Tie as tie
 
-standing-requires : tie.Need-standing-requires
-standing-requires c κs = search needs
+stands-requires : tie.Need-stands-requires
+stands-requires c κs = search needs
 
 fragment-in-requires : tie.Need-fragment-in-requires
 fragment-in-requires c κs = search needs
@@ -15,7 +15,7 @@ ended-requires c κs = search needs
 
 returns : tie.Need-returns
 unfolding stoodOf
-returns c = rw (c .before .before .standing .ensures, c .before .fragment-in .ensures, c .ended .ensures)
+returns c = rw (c .before .before .stands .ensures, c .before .fragment-in .ensures, c .ended .ensures)
 
 pub stood-spec : {M : Type 1} → statement M
-stood-spec = tie.close (tie.spec standing-requires fragment-in-requires ended-requires returns)
+stood-spec = tie.close (tie.spec stands-requires fragment-in-requires ended-requires returns)
