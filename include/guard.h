@@ -14,7 +14,7 @@ extern "C" {
 /* ---- versions */
 
 /* This header's library. It rises with each call that is added or changed, and with the memory that a host lends. */
-#define GUARD_LIBRARY_VERSION 2
+#define GUARD_LIBRARY_VERSION 3
 
 /* The newest version of a sheet that this library reads; each older one is read too. */
 #define GUARD_SHEET_VERSION 1
@@ -24,18 +24,18 @@ uint32_t guard_library_version(void);
 uint32_t guard_sheet_version(void);
 
 /* What a host lends, in words of eight bytes. */
-#define GUARD_BOOK_WORDS 1104
+#define GUARD_BOOK_WORDS 1106
 #define GUARD_MONITOR_WORDS 34
 
 /* The calls as the library has them: a book and a monitor are so many words, and an answer's four fields are one number, lowest first. The number in their names is that of this
  * layout, so that a header and a library of different layouts do not link. Use the functions below, whose names stay. */
-uint32_t guard2_run(const uint8_t *sheet, size_t sheet_length, const uint8_t *log, size_t log_length, uint32_t budget, uint8_t *out, size_t out_length);
-uint64_t guard2_open(const uint8_t *sheet, size_t sheet_length, uint64_t *book, uint64_t *monitor);
-void guard2_start(uint64_t *monitor);
-uint64_t guard2_event(const uint64_t *book, uint64_t *monitor, uint32_t name, uint32_t time);
-uint64_t guard2_clock(const uint64_t *book, uint64_t *monitor, uint32_t time);
-uint64_t guard2_verdict(const uint64_t *monitor);
-uint32_t guard2_taken(const uint64_t *monitor);
+uint32_t guard3_run(const uint8_t *sheet, size_t sheet_length, const uint8_t *log, size_t log_length, uint32_t budget, uint8_t *out, size_t out_length);
+uint64_t guard3_open(const uint8_t *sheet, size_t sheet_length, uint64_t *book, uint64_t *monitor);
+void guard3_start(uint64_t *monitor);
+uint64_t guard3_event(const uint64_t *book, uint64_t *monitor, uint32_t name, uint32_t time);
+uint64_t guard3_clock(const uint64_t *book, uint64_t *monitor, uint32_t time);
+uint64_t guard3_verdict(const uint64_t *monitor);
+uint32_t guard3_taken(const uint64_t *monitor);
 
 /* ---- answers */
 
@@ -100,7 +100,7 @@ static inline const char *guard_refusal_text(uint32_t number)
  * place (u32): k for broken, the field's or the record's offset for refused, else 0. Bytes of out from 12 on stay as they were. */
 static inline uint32_t guard_run(const uint8_t *sheet, size_t sheet_length, const uint8_t *log, size_t log_length, uint32_t budget, uint8_t *out, size_t out_length)
 {
-    return guard2_run(sheet, sheet_length, log, log_length, budget, out, out_length);
+    return guard3_run(sheet, sheet_length, log, log_length, budget, out, out_length);
 }
 
 /* ---- a live session
@@ -139,38 +139,38 @@ static inline guard_answer guard_answer_of(uint64_t word)
 /* Reads a sheet into *book and makes *monitor a fresh monitor. The answer is whole, or the sheet's refusal with the faulty field's offset: then neither is changed. */
 static inline guard_answer guard_open(guard_book *book, guard_monitor *monitor, const uint8_t *sheet, size_t sheet_length)
 {
-    return guard_answer_of(guard2_open(sheet, sheet_length, book->words, monitor->words));
+    return guard_answer_of(guard3_open(sheet, sheet_length, book->words, monitor->words));
 }
 
 /* Makes *monitor a fresh monitor, whatever it was: a second session under a book, or the same one from the start. It is the same for every book. */
 static inline void guard_start(guard_monitor *monitor)
 {
-    guard2_start(monitor->words);
+    guard3_start(monitor->words);
 }
 
 /* One call between host and plugin, at a time in milliseconds. A name of 64 or more is refused (12), a log's FF too, and so is a time before the latest one (11). After a
  * break every observation gets the same answer. */
 static inline guard_answer guard_event(const guard_book *book, guard_monitor *monitor, uint32_t name, uint32_t time)
 {
-    return guard_answer_of(guard2_event(book->words, monitor->words, name, time));
+    return guard_answer_of(guard3_event(book->words, monitor->words, name, time));
 }
 
 /* A time alone: what a host's timer calls, so that a deadline is noticed while no call is made. */
 static inline guard_answer guard_clock(const guard_book *book, guard_monitor *monitor, uint32_t time)
 {
-    return guard_answer_of(guard2_clock(book->words, monitor->words, time));
+    return guard_answer_of(guard3_clock(book->words, monitor->words, time));
 }
 
 /* The verdict that the monitor holds: whole, open or broken. */
 static inline guard_answer guard_verdict(const guard_monitor *monitor)
 {
-    return guard_answer_of(guard2_verdict(monitor->words));
+    return guard_answer_of(guard3_verdict(monitor->words));
 }
 
 /* How many observations the monitor has taken: all but the refused ones and those after a break. */
 static inline uint32_t guard_taken(const guard_monitor *monitor)
 {
-    return guard2_taken(monitor->words);
+    return guard3_taken(monitor->words);
 }
 
 #ifdef __cplusplus

@@ -6,31 +6,31 @@ use mathlib.Core.List.{List}
 use Prim.Native.Nat.{ℕ, _+_, _*_, _<_, _≤_, _^_}
 use native.Mathlib.Omega.{arith}
 use lib.Dec.{ltb}
-use lib.ListN.{length, getD, replicate, length-map, length-replicate, List·getD-map}
-use lib.Seq.{take-all}
+use lib.ListN.{length, getD, set, replicate, length-set, length-map, length-replicate, getD-replicate, List·getD-map}
+use lib.Seq.{take-all, getD-set-same, getD-set-other}
 use borrow.Author.Tests.{ltb-true}
 use Rattle.pattern.specs.Lists.{Distinct, isIn}
 use Rattle.pattern.specs.Meaning.{Range, Fragment, fragmentNames, orderingNames, Rule, namesOf, WellFormedRange, WellFormedFragment, WellFormed}
 use Rattle.pattern.specs.Model.{roundOf, fragmentAt, noFragment}
 use Rattle.names.specs.Names.{member}
-use Rattle.layout.specs.Layout.{Sheet, timeOf, WellFormedSheet}
-use Rattle.layout.specs.Pages.{fragmentWord, rangeWord, headTable, fragmentTable, rangeTable, noRange, noRule, ruleAt, rangeAt}
+use Rattle.layout.specs.Layout.{Sheet, headerOf, WellFormedSheet}
+use Rattle.layout.specs.Pages.{fragmentWord, rangeWord, headerWord, headTable, fragmentTable, rangeTable, noRange, ruleAt, rangeAt}
 use Rattle.layout.proofs.PageLaws.{head-at, fragment-at, range-at, round-formed, round-few, each-at}
-use Rattle.tables.specs.Words.{roundIn, cap, bitIn, countIn}
-use Rattle.tables.specs.Cells.{limitAt, cellAt, tableLength, maskIn, limitIn, Cell, HoldsRules}
-use Rattle.cells.specs.Heads.{LooksHead}
+use Rattle.tables.specs.Words.{timeIn, roundIn, cap, bitIn, countIn}
+use Rattle.tables.specs.Cells.{headAt, cellAt, versionAt, outputsAt, tableLength, maskIn, Cell, HoldsRules}
 use Rattle.cells.proofs.HeadLaws.{head-round, looks-head}
 use Rattle.cells.proofs.CellLaws.{rule-cell}
-use Rattle.book.specs.Tables.{stored, fragmentSet, nameTable, ruleSet, ruleTable, maskOf, namesFrom, unionFrom, tableOf}
+use Rattle.book.specs.Tables.{stored, fragmentSet, nameTable, ruleSet, ruleTable, maskOf, namesFrom, unionFrom, rulesOf}
 use Rattle.book.specs.Books.{bookOf}
-use Rattle.book.specs.Looks.{LooksFragment, LooksRange, Looks}
+use Rattle.book.specs.Looks.{Looks}
 use Rattle.tables.proofs.Bounds.{cap-of, cap-small}
-use Rattle.tables.proofs.WordLaws.{join-in, count-in, name-in, bit-in, low-in, high-in}
+use Rattle.tables.proofs.WordLaws.{count-in, bit-in}
 use Rattle.layout.proofs.Accepted.{rule-formed}
 use Rattle.layout.proofs.Once.{same-place, round-names}
 use Rattle.book.proofs.Steps.{mask-below}
-use Rattle.book.proofs.TableLaws.{Once, mask-stays, limit-at, cell-at}
-use Rattle.book.proofs.SetLaws.{stored-length, stored-at, member-names, member-union, member-mask}
+use Rattle.book.proofs.TableLaws.{rule-length, Once, mask-stays, none-stored, head-stored, cell-at}
+use Rattle.book.proofs.Turns.{turn-length}
+use Rattle.book.proofs.SetLaws.{stored-length, stored-at, stored-past, member-names, member-union, member-mask}
 
 module _ (S : Sheet) (formed : WellFormedSheet S) where
   module _ (r : ℕ) (here : r < length (S .rules)) where
@@ -42,9 +42,6 @@ module _ (S : Sheet) (formed : WellFormedSheet S) where
 
     round : roundIn (getD (headTable (S .rules)) r 0) ≡ length (roundOf (ruleAt (S .rules) r))
     round = rw (head-at (S .rules) r here few) (head-round (ruleAt (S .rules) r) good)
-
-    pub head : LooksHead (getD (headTable (S .rules)) r 0) (ruleAt (S .rules) r)
-    head = rw (head-at (S .rules) r here few) (looks-head (ruleAt (S .rules) r) good)
 
     module _ (f : ℕ) (inside : f < length (roundOf (ruleAt (S .rules) r))) where
       fragment-formed : WellFormedFragment (fragmentAt (ruleAt (S .rules) r) f)
@@ -66,13 +63,6 @@ module _ (S : Sheet) (formed : WellFormedSheet S) where
         pub range-word : getD (rangeTable (S .rules)) (8 * (16 * r + f) + s) 0 ≡ rangeWord (rangeAt (ruleAt (S .rules) r) f s)
         range-word = range-at (S .rules) r here few f inside fewer s within (omega (arith, within, fragment-formed .count))
 
-        pub range : LooksRange (getD (rangeTable (S .rules)) (8 * (16 * r + f) + s) 0) (ruleAt (S .rules) r) f s
-        range = rw range-word (record {
-          name = name-in (rangeAt (ruleAt (S .rules) r) f s) range-formed;
-          u = low-in (rangeAt (ruleAt (S .rules) r) f s) range-formed;
-          v = high-in (rangeAt (ruleAt (S .rules) r) f s) range-formed;
-        })
-
         pub range-bit : bitIn (getD (rangeTable (S .rules)) (8 * (16 * r + f) + s) 0) ≡ rangeAt (ruleAt (S .rules) r) f s .name
         range-bit = ap bitIn range-word ∙ bit-in (rangeAt (ruleAt (S .rules) r) f s) range-formed
 
@@ -93,9 +83,6 @@ module _ (S : Sheet) (formed : WellFormedSheet S) where
           ∙ ap (λ (k : ℕ). member (namesFrom rs (8 * (16 * r + f)) k) n) (count ∙ sym many)
           ∙ member-names rs (8 * (16 * r + f)) ns n (length ns) (omega arith) (λ i l. names-by-number i (subst (λ (k : ℕ). i < k) many l))
           ∙ ap (isIn n) (take-all (length ns) ns (omega arith))
-
-      pub fragment : LooksFragment (getD (fragmentTable (S .rules)) (16 * r + f) 0) (ruleAt (S .rules) r) f
-      fragment = record { join = rw word (join-in (fragmentAt (ruleAt (S .rules) r) f)); count = count }
 
     -- the set of a rule's names
     rule-names : (n : ℕ) → member (getD (ruleTable (headTable (S .rules)) (nameTable (fragmentTable (S .rules)) (rangeTable (S .rules)))) r 0) n ≡ isIn n (namesOf (ruleAt (S .rules) r))
@@ -129,8 +116,11 @@ module _ (S : Sheet) (formed : WellFormedSheet S) where
   abbrev masks : List ℕ
   masks = stored (λ m. maskOf sets m (cap 16 (length (S .rules)))) 64 (replicate tableLength 0)
 
+  abbrev rules : List ℕ
+  rules = rulesOf (headTable (S .rules)) (fragmentTable (S .rules)) (rangeTable (S .rules)) (length (S .rules))
+
   abbrev table : List ℕ
-  table = tableOf (headTable (S .rules)) (fragmentTable (S .rules)) (rangeTable (S .rules)) (length (S .rules))
+  table = bookOf S .table
 
   size : length masks ≡ tableLength
   size = stored-length (λ m. maskOf sets m (cap 16 (length (S .rules)))) 64 (replicate tableLength 0) ∙ length-replicate {A = ℕ} tableLength 0
@@ -141,35 +131,55 @@ module _ (S : Sheet) (formed : WellFormedSheet S) where
   all : cap 16 (length (S .rules)) ≡ length (S .rules)
   all = cap-of 16 (length (S .rules)) (formed .count .1)
 
+  rules-length : length rules ≡ tableLength
+  unfolding rulesOf
+  rules-length = turn-length _ (rule-length (headTable (S .rules)) (fragmentTable (S .rules)) (rangeTable (S .rules))) (cap 16 (length (S .rules))) masks ∙ size
+
+  -- version and outputs stand behind all else
+  early : (j : ℕ) → j < versionAt → getD table j 0 ≡ getD rules j 0
+  early j h =
+      getD-set-other (set rules versionAt (S .version)) outputsAt j (S .outputs) 0 (λ e. omega (arith, h, e))
+      ∙ getD-set-other rules versionAt j (S .version) 0 (λ e. omega (arith, h, e))
+
+  none : (r : ℕ) → length (S .rules) ≤ r → r < 16 → getD table (headAt r) 0 ≡ 0
+  unfolding rulesOf
+  none r h l =
+      early (headAt r) (omega (arith, l))
+      ∙ none-stored (headTable (S .rules)) (fragmentTable (S .rules)) (rangeTable (S .rules)) (cap 16 (length (S .rules))) capped masks size r (omega (arith, h, all)) l
+      ∙ stored-past (λ m. maskOf sets m (cap 16 (length (S .rules)))) 64 (replicate tableLength 0) (headAt r) (omega arith)
+      ∙ getD-replicate tableLength (headAt r) 0 0 (omega (arith, l))
+
   module _ (r : ℕ) (here : r < length (S .rules)) where
     present : r < cap 16 (length (S .rules))
     present = subst (λ (k : ℕ). r < k) (sym all) here
 
-    limit : limitIn (getD table (limitAt r) 0) ≡ timeOf (ruleAt (S .rules) r .kind)
-    unfolding tableOf
-    limit =
-        ap limitIn (limit-at (headTable (S .rules)) (fragmentTable (S .rules)) (rangeTable (S .rules)) (cap 16 (length (S .rules))) capped masks size r present)
-        ∙ omega arith ∙ head r here .time
+    pub head : getD table (headAt r) 0 ≡ headerWord (headerOf (ruleAt (S .rules) r))
+    unfolding rulesOf
+    head =
+        early (headAt r) (omega (arith, few r here))
+        ∙ head-stored (headTable (S .rules)) (fragmentTable (S .rules)) (rangeTable (S .rules)) (cap 16 (length (S .rules))) capped masks size r present
+        ∙ head-at (S .rules) r here (few r here)
 
     cell : (n i : ℕ) → n < length (roundOf (ruleAt (S .rules) r)) → i < length (fragmentAt (ruleAt (S .rules) r) n .ranges)
         → Cell (ruleAt (S .rules) r) n i (getD table (cellAt r (rangeAt (ruleAt (S .rules) r) n i .name)) 0)
-    unfolding tableOf
+    unfolding rulesOf
     cell n i inside within =
         let rule : Rule = ruleAt (S .rules) r in
         subst (Cell rule n i)
         (sym
         (ap (λ (m : ℕ). getD table (cellAt r m) 0) (sym (range-bit r here n inside i within))
+        ∙ early (cellAt r (bitIn (getD (rangeTable (S .rules)) (8 * (16 * r + n) + i) 0))) (omega (arith, few r here))
         ∙ cell-at (headTable (S .rules)) (fragmentTable (S .rules)) (rangeTable (S .rules)) (cap 16 (length (S .rules))) capped masks size r present (once r here) n i
         (subst (λ (k : ℕ). n < k) (sym (round r here)) inside) (subst (λ (k : ℕ). i < k) (sym (count r here n inside)) within)
         ∙ rw (head-at (S .rules) r here (few r here), word r here n inside, range-word r here n inside i within)))
         (rule-cell rule (good r here) n inside i within)
 
   holders : (n r : ℕ) → n < 64 → member (maskIn (getD table n 0)) r ≡ (ltb r (length (S .rules)) && isIn n (namesOf (ruleAt (S .rules) r)))
-  unfolding tableOf
+  unfolding rulesOf
   holders n r l =
       let few : maskOf sets n (cap 16 (length (S .rules))) < 2 ^ 16 = mask-below sets n (cap 16 (length (S .rules))) capped in
       ap (λ (w : ℕ). member (maskIn w) r)
-      (mask-stays (headTable (S .rules)) (fragmentTable (S .rules)) (rangeTable (S .rules)) (cap 16 (length (S .rules))) capped masks size n l
+      (early n (omega (arith, l)) ∙ mask-stays (headTable (S .rules)) (fragmentTable (S .rules)) (rangeTable (S .rules)) (cap 16 (length (S .rules))) capped masks size n l
       ∙ stored-at (λ m. maskOf sets m (cap 16 (length (S .rules)))) 64 (replicate tableLength 0) n l (omega arith))
       ∙ ap (λ (w : ℕ). member w r) (omega (arith, few))
       ∙ member-mask sets n (cap 16 (length (S .rules))) r
@@ -181,16 +191,15 @@ module _ (S : Sheet) (formed : WellFormedSheet S) where
       go false e = refl
 
   holds-rules : HoldsRules table (S .rules)
-  holds-rules = record { rule = λ r here. record { limit = limit r here; cell = cell r here }; holders = holders }
+  holds-rules = record { rule = λ r here. record { limit = ap timeIn (head r here) ∙ looks-head (ruleAt (S .rules) r) (good r here) .time; cell = cell r here }; holders = holders }
 
   -- the book of a well-formed sheet is the sheet, looked up
   pub looks : Looks S (bookOf S)
   looks = record {
-    version′ = refl;
-    outputs = refl;
-    count = refl;
+    version′ = getD-set-other (set rules versionAt (S .version)) outputsAt versionAt (S .outputs) 0 (λ e. omega arith)
+        ∙ getD-set-same rules versionAt (S .version) 0 (omega (arith, rules-length));
+    outputs = getD-set-same (set rules versionAt (S .version)) outputsAt (S .outputs) 0 (omega (arith, length-set rules versionAt (S .version), rules-length));
     head = head;
-    fragment = λ r f h i. fragment r h f i;
-    range = λ r f s h i w. range r h f i s w;
+    none = none;
     table = holds-rules;
   }

@@ -1,6 +1,6 @@
 -- The sets of names and the masks of rules, against the lists of names that they stand for.
 -- Assumes nothing.
-use mathlib.Core.Path.{_≡_, refl, ap, ap₂, sym, subst, _∙_}
+use mathlib.Core.Path.{_≡_, refl, ap, ap₂, sym, _∙_}
 use mathlib.Core.Bool.{Bool, true, false, cond, _||_, _&&_, or-assoc, or-false, or-true}
 use mathlib.Core.List.{List, [], _∷_, _++_, append-nil}
 use Prim.Native.Nat.{ℕ, zero, suc, _+_, _≤_, _<_}
@@ -17,24 +17,21 @@ use Rattle.names.proofs.Digits.{member-or}
 use Rattle.names.proofs.Sets.{member-empty, member-insert}
 use Rattle.layout.proofs.Once.{ordering-append}
 use Rattle.tables.specs.Words.{bitIn}
+use Rattle.book.proofs.Turns.{turn-length, turn-leaves, turn-at}
 use Rattle.book.specs.Tables.{stored, namesFrom, unionFrom, maskOf}
 
 -- ---- a table stored entry by entry
 
 pub stored-length : (f : ℕ → ℕ) (n : ℕ) (t : List ℕ) → length (stored f n t) ≡ length t
-stored-length f zero t = refl
-stored-length f (suc n) t = length-set (stored f n t) n (f n) ∙ stored-length f n t
+stored-length f n t = turn-length _ (λ u i. length-set u i (f i)) n t
 
 pub stored-at : (f : ℕ → ℕ) (n : ℕ) (t : List ℕ) (i : ℕ) → i < n → n ≤ length t → getD (stored f n t) i 0 ≡ f i
-stored-at f zero t i l h = absurd (omega (arith, l))
-stored-at f (suc n) t i l h = go (eqb i n) refl (λ l′. stored-at f n t i l′ (omega (arith, h)))
-  where
-    go : (b : Bool) → eqb i n ≡ b → (i < n → getD (stored f n t) i 0 ≡ f i) → getD (set (stored f n t) n (f n)) i 0 ≡ f i
-    go true e ih =
-        rw (eqb-true i n e) (getD-set-same (stored f n t) n (f n) 0 (subst (λ (k : ℕ). n < k) (sym (stored-length f n t)) (omega (arith, h))))
-    go false e ih =
-        let ne : i ≡ n → ⊥ = eqb-false i n e in
-        getD-set-other (stored f n t) n i (f n) 0 ne ∙ ih (omega (arith, l, ne))
+stored-at f n t i l h =
+    turn-at _ (λ u k. length-set u k (f k)) (length t) i i (f i) (λ u s. getD-set-same u i (f i) 0 (omega (arith, s, l, h))) n l
+    (λ k m ne u. getD-set-other u k i (f k) 0 (λ e. ne (sym e))) t refl
+
+pub stored-past : (f : ℕ → ℕ) (n : ℕ) (t : List ℕ) (j : ℕ) → n ≤ j → getD (stored f n t) j 0 ≡ getD t j 0
+stored-past f n t j h = turn-leaves _ j n (λ i l u. getD-set-other u i j (f i) 0 (λ e. omega (arith, l, h, e))) t
 
 -- ---- lists of names
 

@@ -11,17 +11,9 @@ use Rattle.book.specs.Tables.{tableOf}
 use Rattle.book.specs.declared.Book.{Book}
 use Rattle.book.specs.declared.Translation.{Translation}
 
--- the book of some pages, with the table made of them
+-- the book of some pages
 abbrev pub bookFrom : Pages → Book
-bookFrom p = record {
-  version = p .version;
-  outputs = p .outputs;
-  count = p .count;
-  heads = p .heads;
-  fragments = p .fragments;
-  ranges = p .ranges;
-  table = tableOf (p .heads) (p .fragments) (p .ranges) (p .count);
-}
+bookFrom p = record { table = tableOf (p .heads) (p .fragments) (p .ranges) (p .count) (p .version) (p .outputs) }
 
 -- the book of a sheet
 abbrev pub bookOf : Sheet → Book

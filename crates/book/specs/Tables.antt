@@ -1,5 +1,5 @@
--- The table that is made of a sheet's pages, for a monitor's few look-ups: the rules that hold each name, each rule's t, and what each rule says of each of its names; and on the way to
--- it the sets of names of each fragment and each rule. They are defined for all pages, those of a sheet or not.
+-- The table that is made of a sheet's pages and has all that the sheet says: the rules that hold each name, each rule's head, what each rule says of each of its names, the version and the
+-- outputs; and on the way to it the sets of names of each fragment and each rule. They are defined for all pages, those of a sheet or not.
 -- Assumes nothing.
 use mathlib.Core.Bool.{cond}
 use mathlib.Core.List.{List}
@@ -7,19 +7,18 @@ use Prim.Native.Nat.{ℕ, zero, suc, _+_, _*_}
 use lib.Bits.{bitOr}
 use lib.ListN.{getD, set, replicate}
 use Rattle.names.specs.Names.{member, insert}
-use Rattle.tables.specs.Words.{cap, timeIn, roundIn, countIn, bitIn}
-use Rattle.tables.specs.Cells.{limitAt, cellAt, tableLength}
+use Rattle.tables.specs.Words.{cap, roundIn, countIn, bitIn}
+use Rattle.tables.specs.Cells.{headAt, cellAt, versionAt, outputsAt, tableLength}
 use Rattle.cells.specs.Making.{sharedCell, cellWith}
-
--- f of each number below n, stored at it
-abbrev pub stored : (ℕ → ℕ) → ℕ → List ℕ → List ℕ
-stored f zero table = table
-stored f (suc n) table = set (stored f n table) n (f n)
 
 -- a table, after something was put into it for each number below n
 abbrev pub inTurn : (List ℕ → ℕ → List ℕ) → ℕ → List ℕ → List ℕ
 inTurn put zero table = table
 inTurn put (suc n) table = put (inTurn put n table) n
+
+-- f of each number below n, stored at it
+abbrev pub stored : (ℕ → ℕ) → ℕ → List ℕ → List ℕ
+stored f = inTurn (λ table n. set table n (f n))
 
 -- ---- the names of a fragment
 
@@ -71,14 +70,18 @@ module _ (fragments ranges : List ℕ) (head r : ℕ) where
       inTurn (putCell ranges r (16 * r + n) (sharedCell head word n)) (countIn word) table
 
 module _ (heads fragments ranges : List ℕ) where
-  -- of rule r, and its t
+  -- rule r's head and cells
   unfoldable pub putRule : List ℕ → ℕ → List ℕ
   putRule table r =
       let head : ℕ = getD heads r 0 in
-      inTurn (putFragment fragments ranges head r) (roundIn head) (set table (limitAt r) (timeIn head))
+      inTurn (putFragment fragments ranges head r) (roundIn head) (set table (headAt r) head)
 
-  -- the whole table, of so many rules
-  unfoldable pub tableOf : ℕ → List ℕ
-  tableOf count =
+  -- with the masks, for so many rules
+  unfoldable pub rulesOf : ℕ → List ℕ
+  rulesOf count =
       let sets : List ℕ = ruleTable heads (nameTable fragments ranges) in
       inTurn putRule (cap 16 count) (stored (λ m. maskOf sets m (cap 16 count)) 64 (replicate tableLength 0))
+
+  -- the whole table
+  abbrev pub tableOf : (count version outputs : ℕ) → List ℕ
+  tableOf count version outputs = set (set (rulesOf count) versionAt version) outputsAt outputs

@@ -1,10 +1,10 @@
-// The book of a sheet (document 01: "a translated sheet is a book"): all that the sheet says, in file order, and the table that a monitor looks up at each event.
+// The book of a sheet (document 01: "a translated sheet is a book"): one table that has all that the sheet says, and that a monitor looks up at each event.
 ghost use mathlib.Core.Path.{_≡_};
 ghost use mathlib.Core.Bool.{cond};
 ghost use Prim.Native.Nat.{ℕ, _<_, _≤_};
 ghost use Rattle.names.specs.Names.{member, insert};
 ghost use Rattle.tables.specs.Words.{cap, roundIn};
-ghost use Rattle.book.specs.Tables.{stored, inTurn, fragmentSet, nameTable, ruleSet, ruleTable, maskOf, putCell, putFragment, putRule, tableOf};
+ghost use Rattle.book.specs.Tables.{stored, inTurn, fragmentSet, nameTable, ruleSet, ruleTable, maskOf, putCell, putFragment, putRule, rulesOf};
 ghost use Rattle.book.specs.Books.{Translates, bookFrom};
 use tables::Table;
 
@@ -163,7 +163,7 @@ fn put_fragments<'a>(
     }
 }
 
-// Stores each rule's t and cells.
+// Stores each rule's head and cells.
 fn put_rules<'a>(
     table: &mut Table,
     heads: &'a [u64; 16],
@@ -177,7 +177,7 @@ fn put_rules<'a>(
     let mut r = 0usize;
     while r < count {
         let head = heads[r];
-        table[tables::LIMITS + r] = tables::time(head) as u64;
+        table[tables::HEADS + r] = head;
         put_fragments(table, fragments, ranges, head, r);
         r = r + 1;
     }
@@ -186,17 +186,7 @@ fn put_rules<'a>(
 // ---- the book
 
 pub struct Book {
-    // the sheet's version and outputs, and the count of its rules
-    pub version: u16,
-    pub outputs: u64,
-    pub count: u8,
-    // rule r's eight bytes at r
-    pub heads: [u64; 16],
-    // fragment f of rule r's round at 16 r + f: join and count of ranges
-    pub fragments: [u16; 256],
-    // that fragment's range s at 8 (16 r + f) + s: name, u and v
-    pub ranges: [u64; 2048],
-    // what a monitor looks up: the rules that hold each name, each rule's t, and what each rule says of each of its names
+    // the rules that hold each name, each rule's head and what it says of each of its names, the version and the outputs (tables/specs/Cells)
     pub table: Table,
 }
 
@@ -205,14 +195,14 @@ pub struct Translation {
     pub book: Book,
 }
 
-// The table of a sheet's pages.
-fn table_of<'a>(
+// The table of a sheet's pages, but for the version and the outputs.
+fn rules_of<'a>(
     heads: &'a [u64; 16],
     fragments: &'a [u16; 256],
     ranges: &'a [u64; 2048],
     count: u8,
 ) -> Table
-    ensures { λ x. ⌜ x ≡ tableOf (now (heads .entry)) (now (fragments .entry)) (now (ranges .entry)) count ⌝ }
+    ensures { λ x. ⌜ x ≡ rulesOf (now (heads .entry)) (now (fragments .entry)) (now (ranges .entry)) count ⌝ }
 {
     let n = few(count);
     let names = name_table(fragments, ranges);
@@ -230,16 +220,10 @@ fn book_of(pages: sheet::Pages) -> Book
     let heads = pages.heads;
     let fragments = pages.fragments;
     let ranges = pages.ranges;
-    let table = table_of(&heads, &fragments, &ranges, pages.count);
-    Book {
-        version: pages.version,
-        outputs: pages.outputs,
-        count: pages.count,
-        heads: heads,
-        fragments: fragments,
-        ranges: ranges,
-        table: table,
-    }
+    let mut table = rules_of(&heads, &fragments, &ranges, pages.count);
+    table[tables::VERSION] = pages.version as u64;
+    table[tables::OUTPUTS] = pages.outputs;
+    Book { table: table }
 }
 
 // Reads a sheet from any bytes and translates it: the answer is the reader's, and the book of an accepted sheet is its own. The book that comes with a refusal is the program's choice.

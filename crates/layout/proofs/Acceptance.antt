@@ -17,8 +17,8 @@ use Rattle.layout.specs.Layout.{Sheet, le, each, ruleBytes, mark, encode
 use Rattle.layout.specs.Form.{Got, got, stopped, next, fieldAt, read}
 use Rattle.layout.specs.Reading.{markFault, versionFault, rulesFault, rule, rules, sheet, Outcome, accepted, refused, atEnd, unlessLong, readSheetOn, readSheet}
 use Rattle.layout.proofs.Values.{today-covered, unlike-faultless, outside-faultless, outside-right}
-use Rattle.layout.proofs.Fields.{Piece, join-pieces, FieldGot, field-sound, field-complete, Finds}
-use Rattle.layout.proofs.Forms.{next-got, next-same, moved, read-bind, Sound, AllGood, several-sound, several-complete}
+use Rattle.layout.proofs.Fields.{Piece, join-pieces, field-complete, Finds}
+use Rattle.layout.proofs.Forms.{next-got, field-got, next-same, moved, read-bind, Sound, AllGood, several-sound, several-complete}
 use Rattle.layout.proofs.Parts.{FragmentFits, RuleFits, rule-sound, rule-complete}
 use Rattle.layout.proofs.Sets.{trigger-last, trigger-first, Direction, fresh-distinct, distinct-fresh, fresh-append, append-fresh, fragments-split, fragments-join}
 
@@ -50,15 +50,11 @@ module _ {T : Terms} (covered : Covered T) (s : List ℕ) where
   sheet-sound : Bytes s → (at end : ℕ) (S : Sheet) → read s (sheet T) at ≡ got S end → Sound s encode (SheetFits T) at S end
   unfolding rules
   sheet-sound bytes at end S e =
-      let (m, at₁, e₁, k₁) = next-got (fieldAt s 3 markFault at) (sym (read-sheet at) ∙ e) in
-      let (v, at₂, e₂, k₂) = next-got (fieldAt s 2 (versionFault T) at₁) k₁ in
-      let (o, at₃, e₃, k₃) = next-got (fieldAt s 8 noFault at₂) k₂ in
-      let (n, at₄, e₄, k₄) = next-got (fieldAt s 1 (rulesFault T) at₃) k₃ in
+      let (m, at₁, a, k₁) = field-got bytes 3 markFault at (sym (read-sheet at) ∙ e) in
+      let (v, at₂, b, k₂) = field-got bytes 2 (versionFault T) at₁ k₁ in
+      let (o, at₃, c, k₃) = field-got bytes 8 noFault at₂ k₂ in
+      let (n, at₄, d, k₄) = field-got bytes 1 (rulesFault T) at₃ k₃ in
       let (rs, at₅, e₅, k₅) = next-got (read s (rules T v o n) at₄) k₄ in
-      let a : FieldGot s 3 markFault at m at₁ = field-sound bytes 3 markFault e₁ in
-      let b : FieldGot s 2 (versionFault T) at₁ v at₂ = field-sound bytes 2 (versionFault T) e₂ in
-      let c : FieldGot s 8 noFault at₂ o at₃ = field-sound bytes 8 noFault e₃ in
-      let d : FieldGot s 1 (rulesFault T) at₃ n at₄ = field-sound bytes 1 (rulesFault T) e₄ in
       let f : Sound s (each ruleBytes) (λ (ys : List Rule). (length ys ≡ n) × AllGood none (Fit T v o) 0 ys) at₄ rs at₅
       = several-sound s (λ _. rule T v o) none ruleBytes (Fit T v o) (λ used i j r l p. rule-sound covered s v o bytes i j r p) n 0 at₄ at₅ rs (d .piece .inside) e₅ in
       moved (λ (x : Sheet) (j : ℕ). Sound s encode (SheetFits T) at x j) k₅
@@ -81,14 +77,10 @@ module _ {T : Terms} (covered : Covered T) (s : List ℕ) where
       let o : ℕ = S .outputs in
       let n : ℕ = length (S .rules) in
       let R : List ℕ = each ruleBytes (S .rules) in
-      let a : Finds s (fieldAt s 3 markFault 0) mark (le 2 v ++ (le 8 o ++ (le 1 n ++ R)))
-      = field-complete s 3 markFault mark 0 zero-le (omega arith) (outside-right 2 mark mark mark (omega arith)) e in
-      let b : Finds s (fieldAt s 2 (versionFault T) (a .end)) v (le 8 o ++ (le 1 n ++ R))
-      = field-complete s 2 (versionFault T) v (a .end) (a .inside) (omega (arith, g .known, covered .versions)) (outside-right 3 1 (T .newest) v (g .known)) (a .left) in
-      let c : Finds s (fieldAt s 8 noFault (b .end)) o (le 1 n ++ R)
-      = field-complete s 8 noFault o (b .end) (b .inside) (g .outputs) refl (b .left) in
-      let d : Finds s (fieldAt s 1 (rulesFault T) (c .end)) n R
-      = field-complete s 1 (rulesFault T) n (c .end) (c .inside) (omega (arith, g .count, covered .rules)) (outside-right 4 1 (T .mostRules) n (g .count)) (c .left) in
+      let a = field-complete s 3 markFault mark 0 zero-le (omega arith) (outside-right 2 mark mark mark (omega arith)) e in
+      let b = field-complete s 2 (versionFault T) v (a .end) (a .inside) (omega (arith, g .known, covered .versions)) (outside-right 3 1 (T .newest) v (g .known)) (a .left) in
+      let c = field-complete s 8 noFault o (b .end) (b .inside) (g .outputs) refl (b .left) in
+      let d = field-complete s 1 (rulesFault T) n (c .end) (c .inside) (omega (arith, g .count, covered .rules)) (outside-right 4 1 (T .mostRules) n (g .count)) (c .left) in
       let f : Finds s (read s (rules T v o n) (d .end)) (S .rules) []
       = several-complete s (λ _. rule T v o) none ruleBytes (Fit T v o) (λ used i r rest l w p. rule-complete covered s v o i r rest l w p) (S .rules) 0 (d .end) [] (d .inside) (g .rules)
       (d .left ∙ sym (append-nil R)) in

@@ -6,10 +6,10 @@ use Prim.Native.Nat.{ℕ, zero, suc, _≤_}
 use native.Mathlib.Omega.{arith}
 use lib.ListN.{length, drop}
 use Rattle.names.specs.Names.{insertAll}
-use Rattle.layout.specs.Layout.{each}
+use Rattle.layout.specs.Layout.{each, Bytes}
 use Rattle.layout.specs.Form.{Form, done, field, _>>=_, Got, got, stopped, next, fieldAt, read}
 use Rattle.layout.specs.Reading.{several}
-use Rattle.layout.proofs.Fields.{Piece, join-pieces, no-piece, Finds}
+use Rattle.layout.proofs.Fields.{Piece, join-pieces, no-piece, FieldGot, field-sound, Finds}
 
 -- ---- one after the other
 
@@ -18,6 +18,11 @@ pub next-got : {A B : Type 0} (g : Got A) {f : A → ℕ → Got B} {b : B} {end
     → (a : A) × (at : ℕ) × (g ≡ got a at) × (f a at ≡ got b end)
 next-got (got a at) e = (a, at, refl, e)
 next-got (stopped k p) e = absurd (let z : _≡_ {A = ℕ} 0 1 = cc in omega arith)
+
+-- a field before the rest: its value, and what is known of it
+pub field-got : {A : Type 0} {s : List ℕ} → Bytes s → (n : ℕ) (fault : ℕ → ℕ) (at : ℕ) {f : ℕ → ℕ → Got A} {b : A} {end : ℕ} → next (fieldAt s n fault at) f ≡ got b end
+    → (x : ℕ) × (at₁ : ℕ) × FieldGot s n fault at x at₁ × (f x at₁ ≡ got b end)
+field-got {s} bytes n fault at e = let (x, at₁, e₁, k) = next-got (fieldAt s n fault at) e in (x, at₁, field-sound bytes n fault e₁, k)
 
 pub next-same : {A B : Type 0} (g : Got A) {f f′ : A → ℕ → Got B} → ((a : A) (at : ℕ) → f a at ≡ f′ a at) → next g f ≡ next g f′
 next-same (got a at) h = h a at

@@ -11,6 +11,7 @@ use Rattle.pattern.specs.Meaning.{Range, Fragment, fragmentNames, orderingNames
 use Rattle.pattern.specs.Model.{lastFragments, roundOf, noFragment}
 use Rattle.pattern.proofs.Basics.{in-left, in-right, distinct-left, distinct-right, distinct-apart}
 use Rattle.layout.specs.Pages.{noRange}
+use Rattle.layout.proofs.Sets.{in-either}
 
 -- the name of range i of a list, and of fragment n's
 abbrev nameOf : List Range → ℕ → ℕ
@@ -24,7 +25,7 @@ in-names [] i h = absurd (omega (arith, h))
 in-names (r ∷ rs) zero h = inl refl
 in-names (r ∷ rs) (suc i) h = inr (in-names rs i (omega (arith, h)))
 
-in-ordering : (fs : List Fragment) (n i : ℕ) → n < length fs → i < length (rangesOf fs n) → In (nameOf (rangesOf fs n) i) (orderingNames fs)
+pub in-ordering : (fs : List Fragment) (n i : ℕ) → n < length fs → i < length (rangesOf fs n) → In (nameOf (rangesOf fs n) i) (orderingNames fs)
 in-ordering [] n i h l = absurd (omega (arith, h))
 in-ordering (f ∷ fs) zero i h l = in-left _ (fragmentNames f) (orderingNames fs) (in-names (f .ranges) i l)
 in-ordering (f ∷ fs) (suc n) i h l = in-right _ (fragmentNames f) (orderingNames fs) (in-ordering fs n i (omega (arith, h)) l)
@@ -56,22 +57,13 @@ one-distinct (f ∷ fs) (suc n) h d = one-distinct fs n (omega arith) (distinct-
 
 -- ---- the place of a name
 
-of-append : {A : Type 0} (x : A) (a b : List A) → In x (a ++ b) → In x a ⊎ In x b
-of-append x [] b i = inr i
-of-append x (y ∷ a) b (inl e) = inl (inl e)
-of-append x (y ∷ a) b (inr i) = look (of-append x a b i)
-  where
-    look : In x a ⊎ In x b → In x (y ∷ a) ⊎ In x b
-    look (inl j) = inl (inr j)
-    look (inr j) = inr j
-
 -- where a list of names, and then a list of fragments, has it
 pub name-place : (rs : List Range) (m : ℕ) → In m (map (λ (r : Range). r .name) rs) → (k : ℕ) × (k < length rs) × (m ≡ nameOf rs k)
 name-place (r ∷ rs) m (inl e) = (0, omega arith, e)
 name-place (r ∷ rs) m (inr i) = let (k, h, e) = name-place rs m i in (suc k, (let g : k < length rs = h in omega arith), e)
 
 pub ordering-place : (fs : List Fragment) (m : ℕ) → In m (orderingNames fs) → (n : ℕ) × (i : ℕ) × (n < length fs) × (i < length (rangesOf fs n)) × (m ≡ nameOf (rangesOf fs n) i)
-ordering-place (f ∷ fs) m h = look (of-append m (fragmentNames f) (orderingNames fs) h) (ordering-place fs m)
+ordering-place (f ∷ fs) m h = look (in-either m (fragmentNames f) (orderingNames fs) h) (ordering-place fs m)
   where
     look : In m (fragmentNames f) ⊎ In m (orderingNames fs) → (In m (orderingNames fs) → (n : ℕ) × (i : ℕ) × (n < length fs) × (i < length (rangesOf fs n)) × (m ≡ nameOf (rangesOf fs n) i)) → (n : ℕ) × (i : ℕ) × (n < length (f ∷ fs)) × (i < length (rangesOf (f ∷ fs) n)) × (m ≡ nameOf (rangesOf (f ∷ fs) n) i)
     look (inl j) ih = let (i, g, e) = name-place (f .ranges) m j in (0, i, omega arith, g, e)

@@ -10,12 +10,12 @@ use lib.ListN.{length, drop}
 use Rattle.pattern.specs.Meaning.{Range, Join, all, any, Fragment, fragmentNames, orderingNames, Kind, once, repeated, timed, Rule, Between, WellFormedRange}
 use Rattle.names.specs.Names.{insertAll}
 use Rattle.layout.specs.Terms.{noFault, Terms, Covered}
-use Rattle.layout.specs.Layout.{le, each, mostFragments, mostRanges, joinNumber, kindNumber, inQ, triggerOf, timeOf, rangeBytes, fragmentBytes, Header, headerOf, headerBytes, ruleBytes, JoinAllowed, Bytes}
+use Rattle.layout.specs.Layout.{each, mostFragments, mostRanges, joinNumber, kindNumber, inQ, triggerOf, timeOf, rangeBytes, fragmentBytes, Header, headerOf, headerBytes, ruleBytes, JoinAllowed, Bytes}
 use Rattle.layout.specs.Form.{got, next, fieldAt, read}
 use Rattle.layout.specs.Reading.{dueZero, countFault, leastFault, mostFault, triggerFault, kindFault, joinFault, nameFault, byKind, joinOf, kindOf, triggerSet, rangeName, range, ranges, fragment, fragments, header, rule}
 use Rattle.layout.proofs.Values.{outside-faultless, outside-right, below-faultless, below-right, NameFits, name-faultless, name-right, most-is, ByKind, kind-faultless, kind-right}
-use Rattle.layout.proofs.Fields.{Piece, join-pieces, FieldGot, field-sound, field-complete, Finds}
-use Rattle.layout.proofs.Forms.{next-got, next-same, moved, read-bind, several-length, Sound, AllGood, several-sound, several-complete}
+use Rattle.layout.proofs.Fields.{Piece, join-pieces, field-complete, Finds}
+use Rattle.layout.proofs.Forms.{next-got, field-got, next-same, moved, read-bind, several-length, Sound, AllGood, several-sound, several-complete}
 
 -- ---- a range
 
@@ -28,12 +28,9 @@ module _ {T : Terms} (covered : Covered T) (s : List ℕ) (version outputs : ℕ
       → Sound s rangeBytes (RangeFits outputs ofQ used) at r end
   unfolding range
   range-sound bytes used at end r h e =
-      let (n, at₁, e₁, k₁) = next-got (fieldAt s 1 (nameFault T outputs ofQ used) at) e in
-      let (u, at₂, e₂, k₂) = next-got (fieldAt s 2 leastFault at₁) k₁ in
-      let (v, at₃, e₃, k₃) = next-got (fieldAt s 2 (mostFault (T .endless version) u) at₂) k₂ in
-      let a : FieldGot s 1 (nameFault T outputs ofQ used) at n at₁ = field-sound bytes 1 (nameFault T outputs ofQ used) e₁ in
-      let b : FieldGot s 2 leastFault at₁ u at₂ = field-sound bytes 2 leastFault e₂ in
-      let d : FieldGot s 2 (mostFault (T .endless version) u) at₂ v at₃ = field-sound bytes 2 (mostFault (T .endless version) u) e₃ in
+      let (n, at₁, a, k₁) = field-got bytes 1 (nameFault T outputs ofQ used) at e in
+      let (u, at₂, b, k₂) = field-got bytes 2 leastFault at₁ k₁ in
+      let (v, at₃, d, k₃) = field-got bytes 2 (mostFault (T .endless version) u) at₂ k₂ in
       let f = name-faultless covered outputs ofQ used n (a .faultless) in
       moved (λ (x : Range) (k : ℕ). Sound s rangeBytes (RangeFits outputs ofQ used) at x k) k₃
       (record {
@@ -53,12 +50,9 @@ module _ {T : Terms} (covered : Covered T) (s : List ℕ) (version outputs : ℕ
       → Finds s (read s (range T version outputs ofQ used) at) r rest
   unfolding range
   range-complete used at r rest h (g, f) e =
-      let a : Finds s (fieldAt s 1 (nameFault T outputs ofQ used) at) (r .name) ((le 2 (r .u) ++ le 2 (r .v)) ++ rest)
-      = field-complete s 1 (nameFault T outputs ofQ used) (r .name) at h (omega (arith, g .named)) (name-right covered outputs ofQ used (r .name) (g .named) f) e in
-      let b : Finds s (fieldAt s 2 leastFault (a .end)) (r .u) (le 2 (r .v) ++ rest)
-      = field-complete s 2 leastFault (r .u) (a .end) (a .inside) (omega (arith, g .order, g .few)) (below-right 1 (r .u) (g .some)) (a .left) in
-      let d : Finds s (fieldAt s 2 (mostFault (T .endless version) (r .u)) (b .end)) (r .v) rest
-      = field-complete s 2 (mostFault (T .endless version) (r .u)) (r .v) (b .end) (b .inside) (omega (arith, g .few)) (most-is covered version (r .u) (r .v) ∙ below-right (r .u) (r .v) (g .order)) (b .left) in
+      let a = field-complete s 1 (nameFault T outputs ofQ used) (r .name) at h (omega (arith, g .named)) (name-right covered outputs ofQ used (r .name) (g .named) f) e in
+      let b = field-complete s 2 leastFault (r .u) (a .end) (a .inside) (omega (arith, g .order, g .few)) (below-right 1 (r .u) (g .some)) (a .left) in
+      let d = field-complete s 2 (mostFault (T .endless version) (r .u)) (r .v) (b .end) (b .inside) (omega (arith, g .few)) (most-is covered version (r .u) (r .v) ∙ below-right (r .u) (r .v) (g .order)) (b .left) in
       record { end = d .end; reads = rw (a .reads, b .reads, d .reads); left = d .left; inside = d .inside }
 
 -- ---- a fragment
@@ -94,11 +88,9 @@ module _ {T : Terms} (covered : Covered T) (s : List ℕ) (version outputs : ℕ
       → Sound s fragmentBytes (FragmentFits T version outputs ofQ used) at f end
   unfolding ranges
   fragment-sound bytes used at end f h e =
-      let (j, at₁, e₁, k₁) = next-got (fieldAt s 1 (joinFault T version) at) (sym (read-fragment used at) ∙ e) in
-      let (n, at₂, e₂, k₂) = next-got (fieldAt s 1 (countFault mostRanges) at₁) k₁ in
+      let (j, at₁, a, k₁) = field-got bytes 1 (joinFault T version) at (sym (read-fragment used at) ∙ e) in
+      let (n, at₂, b, k₂) = field-got bytes 1 (countFault mostRanges) at₁ k₁ in
       let (rs, at₃, e₃, k₃) = next-got (read s (ranges T version outputs ofQ used n) at₂) k₂ in
-      let a : FieldGot s 1 (joinFault T version) at j at₁ = field-sound bytes 1 (joinFault T version) e₁ in
-      let b : FieldGot s 1 (countFault mostRanges) at₁ n at₂ = field-sound bytes 1 (countFault mostRanges) e₂ in
       let d : Sound s (each rangeBytes) (λ (ys : List Range). (length ys ≡ n) × AllGood rangeName (RangeFits outputs ofQ) used ys) at₂ rs at₃
       = several-sound s (range T version outputs ofQ) rangeName rangeBytes (RangeFits outputs ofQ) (range-sound covered s version outputs ofQ bytes) n used at₂ at₃ rs (b .piece .inside) e₃ in
       let allowed = outside-faultless 3 0 (T .lastJoin version) j (a .faultless) in
@@ -122,10 +114,8 @@ module _ {T : Terms} (covered : Covered T) (s : List ℕ) (version outputs : ℕ
       let n : ℕ = length (f .ranges) in
       let j : ℕ = joinNumber (f .join) in
       let tail : List ℕ = each rangeBytes (f .ranges) in
-      let a : Finds s (fieldAt s 1 (joinFault T version) at) j ((le 1 n ++ tail) ++ rest)
-      = field-complete s 1 (joinFault T version) j at h (omega (arith, g .0, covered .joins version)) (outside-right 4 0 (T .lastJoin version) j (omega arith, g .0)) e in
-      let b : Finds s (fieldAt s 1 (countFault mostRanges) (a .end)) n (tail ++ rest)
-      = field-complete s 1 (countFault mostRanges) n (a .end) (a .inside) (omega (arith, g .1 .0)) (outside-right 4 1 8 n (g .1 .0)) (a .left) in
+      let a = field-complete s 1 (joinFault T version) j at h (omega (arith, g .0, covered .joins version)) (outside-right 4 0 (T .lastJoin version) j (omega arith, g .0)) e in
+      let b = field-complete s 1 (countFault mostRanges) n (a .end) (a .inside) (omega (arith, g .1 .0)) (outside-right 4 1 8 n (g .1 .0)) (a .left) in
       let d : Finds s (read s (ranges T version outputs ofQ used n) (b .end)) (f .ranges) rest
       = several-complete s (range T version outputs ofQ) rangeName rangeBytes (RangeFits outputs ofQ) (range-complete covered s version outputs ofQ)
       (f .ranges) used (b .end) rest (b .inside) (g .1 .1) (b .left) in
@@ -157,16 +147,11 @@ module _ {T : Terms} (covered : Covered T) (s : List ℕ) (version outputs : ℕ
   pub header-sound : Bytes s → (at end : ℕ) (h : Header) → read s (header T version outputs) at ≡ got h end → Sound s headerBytes (HeaderFits T version outputs) at h end
   unfolding header
   header-sound bytes at end h e =
-      let (k, at₁, e₁, k₁) = next-got (fieldAt s 1 (kindFault T version) at) e in
-      let (m, at₂, e₂, k₂) = next-got (fieldAt s 1 (countFault mostFragments) at₁) k₁ in
-      let (n, at₃, e₃, k₃) = next-got (fieldAt s 1 (byKind k (countFault mostFragments) dueZero) at₂) k₂ in
-      let (i, at₄, e₄, k₄) = next-got (fieldAt s 1 (byKind k dueZero (triggerFault outputs)) at₃) k₃ in
-      let (t, at₅, e₅, k₅) = next-got (fieldAt s 4 (byKind k noFault dueZero) at₄) k₄ in
-      let a : FieldGot s 1 (kindFault T version) at k at₁ = field-sound bytes 1 (kindFault T version) e₁ in
-      let b : FieldGot s 1 (countFault mostFragments) at₁ m at₂ = field-sound bytes 1 (countFault mostFragments) e₂ in
-      let c : FieldGot s 1 (byKind k (countFault mostFragments) dueZero) at₂ n at₃ = field-sound bytes 1 (byKind k (countFault mostFragments) dueZero) e₃ in
-      let d : FieldGot s 1 (byKind k dueZero (triggerFault outputs)) at₃ i at₄ = field-sound bytes 1 (byKind k dueZero (triggerFault outputs)) e₄ in
-      let f : FieldGot s 4 (byKind k noFault dueZero) at₄ t at₅ = field-sound bytes 4 (byKind k noFault dueZero) e₅ in
+      let (k, at₁, a, k₁) = field-got bytes 1 (kindFault T version) at e in
+      let (m, at₂, b, k₂) = field-got bytes 1 (countFault mostFragments) at₁ k₁ in
+      let (n, at₃, c, k₃) = field-got bytes 1 (byKind k (countFault mostFragments) dueZero) at₂ k₂ in
+      let (i, at₄, d, k₄) = field-got bytes 1 (byKind k dueZero (triggerFault outputs)) at₃ k₃ in
+      let (t, at₅, f, k₅) = field-got bytes 4 (byKind k noFault dueZero) at₄ k₄ in
       let kind = outside-faultless 3 (T .firstKind version) 2 k (a .faultless) in
       moved (λ (x : Header) (j : ℕ). Sound s headerBytes (HeaderFits T version outputs) at x j) k₅
       (record {
@@ -183,16 +168,11 @@ module _ {T : Terms} (covered : Covered T) (s : List ℕ) (version outputs : ℕ
   unfolding header
   header-complete at h rest l g e =
       let w = kind-right outputs (h .kind) (h .countQ) (h .trigger) (h .time) (g .byKind′) in
-      let a : Finds s (fieldAt s 1 (kindFault T version) at) (h .kind) ((le 1 (h .countP) ++ (le 1 (h .countQ) ++ (le 1 (h .trigger) ++ le 4 (h .time)))) ++ rest)
-      = field-complete s 1 (kindFault T version) (h .kind) at l (omega (arith, w .kind)) (outside-right 4 (T .firstKind version) 2 (h .kind) (g .kinds, w .kind)) e in
-      let b : Finds s (fieldAt s 1 (countFault mostFragments) (a .end)) (h .countP) ((le 1 (h .countQ) ++ (le 1 (h .trigger) ++ le 4 (h .time))) ++ rest)
-      = field-complete s 1 (countFault mostFragments) (h .countP) (a .end) (a .inside) (omega (arith, g .countP)) (outside-right 4 1 8 (h .countP) (g .countP)) (a .left) in
-      let c : Finds s (fieldAt s 1 (byKind (h .kind) (countFault mostFragments) dueZero) (b .end)) (h .countQ) ((le 1 (h .trigger) ++ le 4 (h .time)) ++ rest)
-      = field-complete s 1 (byKind (h .kind) (countFault mostFragments) dueZero) (h .countQ) (b .end) (b .inside) (w .small .0) (w .countQ) (b .left) in
-      let d : Finds s (fieldAt s 1 (byKind (h .kind) dueZero (triggerFault outputs)) (c .end)) (h .trigger) (le 4 (h .time) ++ rest)
-      = field-complete s 1 (byKind (h .kind) dueZero (triggerFault outputs)) (h .trigger) (c .end) (c .inside) (w .small .1) (w .trigger) (c .left) in
-      let f : Finds s (fieldAt s 4 (byKind (h .kind) noFault dueZero) (d .end)) (h .time) rest
-      = field-complete s 4 (byKind (h .kind) noFault dueZero) (h .time) (d .end) (d .inside) (w .small .2) (w .time) (d .left) in
+      let a = field-complete s 1 (kindFault T version) (h .kind) at l (omega (arith, w .kind)) (outside-right 4 (T .firstKind version) 2 (h .kind) (g .kinds, w .kind)) e in
+      let b = field-complete s 1 (countFault mostFragments) (h .countP) (a .end) (a .inside) (omega (arith, g .countP)) (outside-right 4 1 8 (h .countP) (g .countP)) (a .left) in
+      let c = field-complete s 1 (byKind (h .kind) (countFault mostFragments) dueZero) (h .countQ) (b .end) (b .inside) (w .small .0) (w .countQ) (b .left) in
+      let d = field-complete s 1 (byKind (h .kind) dueZero (triggerFault outputs)) (h .trigger) (c .end) (c .inside) (w .small .1) (w .trigger) (c .left) in
+      let f = field-complete s 4 (byKind (h .kind) noFault dueZero) (h .time) (d .end) (d .inside) (w .small .2) (w .time) (d .left) in
       record { end = f .end; reads = rw (a .reads, b .reads, c .reads, d .reads, f .reads); left = f .left; inside = f .inside }
 
 -- ---- a rule

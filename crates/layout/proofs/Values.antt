@@ -4,8 +4,8 @@ use mathlib.Core.Path.{_≡_, refl}
 use mathlib.Core.Bool.{Bool, true, false, not, _&&_}
 use Prim.Native.Nat.{ℕ, zero, suc, _≤_, _<_, _^_}
 use native.Mathlib.Omega.{arith}
-use lib.Dec.{ltb, eqb}
-use borrow.Author.Tests.{lt-ltb, le-ltb, ltb-false, eqb-true, eq-eqb}
+use lib.Dec.{ltb}
+use borrow.Author.Tests.{lt-ltb, le-ltb, ltb-false}
 use Rattle.pattern.specs.Meaning.{Between}
 use Rattle.names.specs.Names.{member, insert, withName}
 use Rattle.layout.specs.Layout.{Input}
@@ -95,27 +95,9 @@ pub record KindRight (outputs k n i t : ℕ) : Type 0 where
   pub small : (n < 256) × (i < 256) × (t < 256 ^ 4)
 
 pub kind-right : (outputs k n i t : ℕ) → ByKind outputs k n i t → KindRight outputs k n i t
-kind-right outputs zero n i t (a, b, d) = record {
-  kind = omega arith;
-  countQ = rw a;
-  trigger = trigger-right outputs i b;
-  time = rw d;
-  small = omega (arith, a, b .0, d);
-}
-kind-right outputs (suc zero) n i t (a, b, d) = record {
-  kind = omega arith;
-  countQ = rw a;
-  trigger = trigger-right outputs i b;
-  time = rw d;
-  small = omega (arith, a, b .0, d);
-}
-kind-right outputs (suc (suc zero)) n i t (a, b, d) = record {
-  kind = omega arith;
-  countQ = outside-right 4 1 8 n a;
-  trigger = rw b;
-  time = refl;
-  small = omega (arith, a, b, d);
-}
+kind-right outputs zero n i t (a, b, d) = record { kind = omega arith; countQ = rw a; trigger = trigger-right outputs i b; time = rw d; small = omega (arith, a, b .0, d) }
+kind-right outputs (suc zero) n i t (a, b, d) = record { kind = omega arith; countQ = rw a; trigger = trigger-right outputs i b; time = rw d; small = omega (arith, a, b .0, d) }
+kind-right outputs (suc (suc zero)) n i t (a, b, d) = record { kind = omega arith; countQ = outside-right 4 1 8 n a; trigger = rw b; time = refl; small = omega (arith, a, b, d) }
 kind-right outputs (suc (suc (suc k))) n i t g = absurd g
 
 -- the set with a name of 0 to 63

@@ -20,7 +20,7 @@ use Rattle.monitor.specs.Promise.{seen, valuesOf, verdictIn, inWords, Observes,
 
 -- it rises with each call that is added or changed, and with the memory that a host lends
 abbrev pub libraryVersion : ℕ
-libraryVersion = 2
+libraryVersion = 3
 
 -- ---- opening: the two arrays that a host lends
 

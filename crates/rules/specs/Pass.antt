@@ -12,7 +12,7 @@ use Rattle.words.specs.Words.{noState, Held, Holds, withRules}
 use Rattle.rules.specs.declared.Masks.{Masks}
 use Rattle.masks.specs.Masks.{maskN, Union, With}
 use Rattle.fragment.specs.Upto.{mapN}
-use Rattle.tables.specs.Cells.{limitAt, limitIn}
+use Rattle.tables.specs.Cells.{limitOf}
 use Rattle.deadline.specs.Deadlines.{overdueOf}
 use Rattle.step.specs.declared.Standing.{Standing}
 use Rattle.step.specs.declared.Standing.the-variants.{Due, Broken}
@@ -21,7 +21,7 @@ use Rattle.step.specs.Steps.{actOf}
 
 -- a rule that is held to its deadline; at an observation a rule is that, or it steps (`actOf`), at an event on one of its names
 abbrev pub waitedOf : List ℕ → ℕ → RuleState → ℕ → Stepped
-waitedOf table r st time = record { state = st; standing = cond (overdueOf (limitIn (getD table (limitAt r) 0)) (st .end) time) Broken Due }
+waitedOf table r st time = record { state = st; standing = cond (overdueOf (limitOf table r) (st .end) time) Broken Due }
 
 unfoldable pub ruleOf : List ℕ → ℕ → ℕ → RuleState → ℕ → ℕ → Stepped
 ruleOf table concerned r st name time = cond (member concerned r) (actOf table r st name time) (waitedOf table r st time)

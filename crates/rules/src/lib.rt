@@ -52,7 +52,7 @@ fn waited(table: &Table, m: &Memory, r: usize, time: u32) -> Standing
     requires { ⌜ r < 16 ⌝ }
     ensures { λ k. ⌜ k ≡ waitedOf (now (table .entry)) r (getD (heldBy (now (m .entry)) .rules) r noState) time .standing ⌝ }
 {
-    let limit = tables::limit_in(table[tables::LIMITS + r]);
+    let limit = tables::time(table[tables::HEADS + r]);
     if deadline::overdue(limit, words::end_of(m, r), time) {
         return Standing::Broken;
     }

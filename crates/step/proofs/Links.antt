@@ -21,7 +21,7 @@ use Rattle.pattern.proofs.Fragment.{Checked, start-count}
 use Rattle.pattern.proofs.Keeps.{Erred, stays-erred, held, moves-same, in-moved, after, late-errs, foreign-errs, passing-is, incomplete-errs}
 use Rattle.layout.specs.Layout.{timeOf}
 use Rattle.layout.specs.Pages.{rangeAt}
-use Rattle.tables.specs.Cells.{limitAt, cellAt, limitIn, isTimed, frees, preceding, Cell, HoldsRule}
+use Rattle.tables.specs.Cells.{cellAt, isTimed, frees, preceding, Cell, HoldsRule, limitOf}
 use Rattle.deadline.specs.Deadlines.{overdueOf, lateOf}
 use Rattle.step.specs.declared.RuleState.{RuleState}
 use Rattle.step.specs.declared.Standing.the-variants.{Whole}
@@ -79,8 +79,8 @@ module _ {table : List ℕ} {r : ℕ} {rule : Rule} (h : HoldsRule table r rule)
       cell-d : Cell rule (S .fragment) j (cellIn table r (st .current))
       cell-d = cell-of (S .fragment) j (st .current) (w .inside) (w .held) (w .current)
 
-      late-here : lateOf (cellIn table r name) (limitIn (getD table (limitAt r) 0)) (st .end) time ≡ (afterP rule g && not (inTime (rule .kind) (S .end) time))
-      late-here = late-is cell-c (limitIn (getD table (limitAt r) 0)) (st .end) time (h .limit) ∙ ap (λ (x : ℕ). afterP rule g && not (inTime (rule .kind) x time)) (w .end)
+      late-here : lateOf (cellIn table r name) (limitOf table r) (st .end) time ≡ (afterP rule g && not (inTime (rule .kind) (S .end) time))
+      late-here = late-is cell-c (limitOf table r) (st .end) time (h .limit) ∙ ap (λ (x : ℕ). afterP rule g && not (inTime (rule .kind) x time)) (w .end)
 
       -- a rule at a fragment that has begun is not released
       unreleased : releasedOf table r st ≡ false
@@ -313,7 +313,7 @@ runs-end {rule} sound st S (freed some free n i hn hi frees′ y) e = let rests 
 runs-end sound st S (begun j w) e = w .end
 
 -- so that it is held to the model's deadline
-pub held-to : {table : List ℕ} {r : ℕ} {rule : Rule} → HoldsRule table r rule → Sound rule → (st : RuleState) (S : M.RuleState) → Shows rule st S → running rule S ≡ true → (time : ℕ) → overdueOf (limitIn (getD table (limitAt r) 0)) (st .end) time ≡ not (inTime (rule .kind) (S .end) time)
+pub held-to : {table : List ℕ} {r : ℕ} {rule : Rule} → HoldsRule table r rule → Sound rule → (st : RuleState) (S : M.RuleState) → Shows rule st S → running rule S ≡ true → (time : ℕ) → overdueOf (limitOf table r) (st .end) time ≡ not (inTime (rule .kind) (S .end) time)
 held-to {table} {r} {rule} h sound st S w e time = ap₂ (λ (t end : ℕ). ltb (end + t) time) (h .limit) (runs-end sound st S w e) ∙ look (rule .kind) (running-timed (isTimed (rule .kind)) (not (atRest rule S) && (not (erred (slotsOf rule S)) && pressed rule S)) e)
   where
     running-timed : (a b : Bool) → (a && b) ≡ true → a ≡ true

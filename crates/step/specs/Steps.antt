@@ -7,7 +7,7 @@ use Prim.Native.Nat.{ℕ, _+_, _%_}
 use lib.Dec.{eqb}
 use lib.ListN.{getD, set}
 use Rattle.recogniser.specs.Numbers.{nextState}
-use Rattle.tables.specs.Cells.{fragmentIn, beforeIn, lastIn, freesIn, indexIn, leastIn, mostIn, inQIn, endsPIn, limitAt, cellAt, limitIn}
+use Rattle.tables.specs.Cells.{fragmentIn, beforeIn, lastIn, freesIn, indexIn, leastIn, mostIn, inQIn, endsPIn, cellAt, limitOf}
 use Rattle.fragment.specs.Fragments.{zeros, begunOf, completeOf, growsOf}
 use Rattle.deadline.specs.Deadlines.{lateOf, endOf}
 use Rattle.step.specs.declared.RuleState.{RuleState}
@@ -84,6 +84,6 @@ actOf table r st name now =
     let d : ℕ = cellIn table r (st .current) in
     cond (eqb (st .count) 0) (cond (eqb (fragmentIn c) 0) (beginOf c name (st .end) now) (brokenOf st))
     (cond (releasedOf table r st) (record { state = st; standing = Whole })
-    (cond (lateOf c (limitIn (getD table (limitAt r) 0)) (st .end) now) (brokenOf st)
+    (cond (lateOf c (limitOf table r) (st .end) now) (brokenOf st)
     (cond (eqb (fragmentIn c) (st .fragment)) (cond (eqb name (st .current)) (longerOf c st name now) (otherOf c d st name now))
     (passOf c d st name now))))

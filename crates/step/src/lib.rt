@@ -216,7 +216,7 @@ pub fn act(table: &Table, r: usize, st: RuleState, name: u8, time: u32) -> Stepp
     }
     let d = cell_at(table, r, st.current);
     let c = cell_at(table, r, name);
-    let limit = tables::limit_in(table[tables::LIMITS + r % 16]);
+    let limit = tables::time(table[tables::HEADS + r % 16]);
     if deadline::late(c, limit, st.end, time) {
         return broken(st);
     }

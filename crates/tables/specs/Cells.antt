@@ -4,7 +4,7 @@
 use mathlib.Core.Path.{_≡_}
 use mathlib.Core.Bool.{Bool, true, false, cond, not, _&&_}
 use mathlib.Core.List.{List}
-use Prim.Native.Nat.{ℕ, suc, _+_, _-_, _*_, _%_, _<_}
+use Prim.Native.Nat.{ℕ, zero, suc, _+_, _-_, _*_, _%_, _<_}
 use lib.Dec.{eqb, ltb}
 use lib.ListN.{length, getD}
 use Rattle.bits.specs.Bits.{part, flagAt}
@@ -14,6 +14,7 @@ use Rattle.pattern.specs.Meaning.{Fragment, Kind, once, repeated, timed, Rule, 
 use Rattle.pattern.specs.Model.{roundOf, isOnce, fragmentAt, isLast, afterP}
 use Rattle.layout.specs.Layout.{joinNumber, timeOf}
 use Rattle.layout.specs.Pages.{ruleAt, rangeAt}
+use Rattle.tables.specs.Words.{timeIn}
 
 -- ---- what a cell holds
 
@@ -111,31 +112,55 @@ pub record Cell (r : Rule) (n i cell : ℕ) : Type 0 where
   pub inQ : inQIn cell ≡ isInQ r n
   pub endsP : endsPIn cell ≡ endsP r n
 
--- ---- the table of a book: at each name the mask of the rules that hold it; then each rule's t; then each rule's cells, by name
+-- ---- the table of a book: at each name the mask of the rules that hold it; then each rule's head; then each rule's cells, by name; then the version and the outputs
 
-abbrev pub limitAt : ℕ → ℕ
-limitAt r = 64 + r
+abbrev pub headAt : ℕ → ℕ
+headAt r = 64 + r
 
 abbrev pub cellAt : ℕ → ℕ → ℕ
 cellAt r name = 80 + 64 * r + name
 
+abbrev pub versionAt : ℕ
+versionAt = 1104
+
+abbrev pub outputsAt : ℕ
+outputsAt = 1105
+
 -- so many words
 abbrev pub tableLength : ℕ
-tableLength = 1104
+tableLength = 1106
 
--- what a word of the table holds: a mask of rules; a time
+-- what the word of a name holds, a mask of rules
 abbrev pub maskIn : ℕ → ℕ
 maskIn word = word % 65536
 
-abbrev pub limitIn : ℕ → ℕ
-limitIn word = word % 4294967296
+-- rule r's t
+abbrev pub limitOf : List ℕ → ℕ → ℕ
+limitOf table r = timeIn (getD table (headAt r) 0)
 
 -- the table has rule r
 pub record HoldsRule (table : List ℕ) (r : ℕ) (rule : Rule) : Type 0 where
-  pub limit : limitIn (getD table (limitAt r) 0) ≡ timeOf (rule .kind)
+  pub limit : limitOf table r ≡ timeOf (rule .kind)
   pub cell : (n i : ℕ) → n < length (roundOf rule) → i < length (fragmentAt rule n .ranges) → Cell rule n i (getD table (cellAt r (rangeAt rule n i .name)) 0)
 
 -- and all of these; bit r of a name's mask: rule r is there, and holds the name
 pub record HoldsRules (table : List ℕ) (rules : List Rule) : Type 0 where
   pub rule : (r : ℕ) → r < length rules → HoldsRule table r (ruleAt rules r)
   pub holders : (n r : ℕ) → n < 64 → member (maskIn (getD table n 0)) r ≡ (ltb r (length rules) && isIn n (namesOf (ruleAt rules r)))
+
+-- ---- from a place to its name
+
+-- the first number from `at` on of which p is so; past the n that are tried, the next
+abbrev pub firstFrom : (ℕ → Bool) → ℕ → ℕ → ℕ
+firstFrom p at zero = at
+firstFrom p at (suc n) = cond (p at) at (firstFrom p (suc at) n)
+
+-- rule r holds name n at range i of fragment f
+abbrev pub standsAt : List ℕ → ℕ → ℕ → ℕ → ℕ → Bool
+standsAt table r f i n =
+    let cell : ℕ = getD table (cellAt r n) 0 in
+    member (maskIn (getD table n 0)) r && (eqb (fragmentIn cell) f && eqb (indexIn cell) i)
+
+-- the name of range i of fragment f of rule r
+unfoldable pub nameAt : List ℕ → ℕ → ℕ → ℕ → ℕ
+nameAt table r f i = firstFrom (standsAt table r f i) 0 64

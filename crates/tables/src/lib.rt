@@ -4,7 +4,7 @@ ghost use mathlib.Core.Path.{_≡_};
 ghost use mathlib.Core.Bool.{cond};
 ghost use lib.Dec.{eqb};
 ghost use Prim.Native.Nat.{_<_};
-ghost use Rattle.tables.specs.Cells.{fragmentIn, beforeIn, lastIn, freesIn, indexIn, lessIn, looseIn, leastIn, mostIn, inPIn, inQIn, endsPIn, maskIn, limitIn};
+ghost use Rattle.tables.specs.Cells.{fragmentIn, beforeIn, lastIn, freesIn, indexIn, lessIn, looseIn, leastIn, mostIn, inPIn, inQIn, endsPIn, maskIn};
 ghost use Rattle.tables.specs.Words.{kindIn, countPIn, countQIn, triggerIn, timeIn, roundIn, joinIn, countIn, bitIn, lowIn, highIn};
 
 // ---- a rule's head
@@ -177,31 +177,28 @@ pub fn ends_p(cell: u64) -> bool
     cell / 2097152 % 2 == 1
 }
 
-// ---- the table of a book: at each name the mask of the rules that hold it; then each rule's t; then each rule's cells, by name
+// ---- the table of a book: at each name the mask of the rules that hold it; then each rule's head; then each rule's cells, by name; then the version and the outputs
 
 // So many masks, and so many cells for each rule.
 pub const NAMES: usize = 64;
 
-// Rule r's t stands at LIMITS + r,
-pub const LIMITS: usize = NAMES;
+// Rule r's head stands at HEADS + r,
+pub const HEADS: usize = NAMES;
 
-// and its cell of name n at CELLS + NAMES r + n.
-pub const CELLS: usize = LIMITS + 16;
+// its cell of name n at CELLS + NAMES r + n.
+pub const CELLS: usize = HEADS + 16;
 
-pub const LENGTH: usize = CELLS + 16 * NAMES;
+pub const VERSION: usize = CELLS + 16 * NAMES;
+
+pub const OUTPUTS: usize = VERSION + 1;
+
+pub const LENGTH: usize = OUTPUTS + 1;
 
 pub type Table = [u64; LENGTH];
 
-// ---- a word of the table: the rules that hold a name, and a rule's t
-
+// The mask that the word of a name holds.
 pub fn mask_in(word: u64) -> u16
     ensures { λ r. ⌜ r ≡ maskIn word ⌝ }
 {
     (word % 65536) as u16
-}
-
-pub fn limit_in(word: u64) -> u32
-    ensures { λ r. ⌜ r ≡ limitIn word ⌝ }
-{
-    (word % 4294967296) as u32
 }

@@ -8,7 +8,7 @@ pub const MONITOR_WORDS: usize = 34;
 pub type Words = [u64; MONITOR_WORDS];
 
 /// How many words a book has: `GUARD_BOOK_WORDS` there.
-pub(crate) const BOOK_WORDS: usize = 1104;
+pub(crate) const BOOK_WORDS: usize = 1106;
 
 /// A book's words, as `guard_book` in `include/guard.h` has them.
 pub(crate) type Tables = [u64; BOOK_WORDS];
@@ -16,13 +16,13 @@ pub(crate) type Tables = [u64; BOOK_WORDS];
 extern "C" {
     fn guard_library_version() -> u32;
     fn guard_sheet_version() -> u32;
-    fn guard2_run(sheet: *const u8, sheet_length: usize, log: *const u8, log_length: usize, budget: u32, out: *mut u8, out_length: usize) -> u32;
-    fn guard2_open(sheet: *const u8, sheet_length: usize, book: *mut u64, monitor: *mut u64) -> u64;
-    fn guard2_start(monitor: *mut u64);
-    fn guard2_event(book: *const u64, monitor: *mut u64, name: u32, time: u32) -> u64;
-    fn guard2_clock(book: *const u64, monitor: *mut u64, time: u32) -> u64;
-    fn guard2_verdict(monitor: *const u64) -> u64;
-    fn guard2_taken(monitor: *const u64) -> u32;
+    fn guard3_run(sheet: *const u8, sheet_length: usize, log: *const u8, log_length: usize, budget: u32, out: *mut u8, out_length: usize) -> u32;
+    fn guard3_open(sheet: *const u8, sheet_length: usize, book: *mut u64, monitor: *mut u64) -> u64;
+    fn guard3_start(monitor: *mut u64);
+    fn guard3_event(book: *const u64, monitor: *mut u64, name: u32, time: u32) -> u64;
+    fn guard3_clock(book: *const u64, monitor: *mut u64, time: u32) -> u64;
+    fn guard3_verdict(monitor: *const u64) -> u64;
+    fn guard3_taken(monitor: *const u64) -> u32;
 }
 
 /// The version of the library that is linked. This package is of [`LIBRARY_VERSION`](crate::LIBRARY_VERSION).
@@ -40,43 +40,43 @@ pub fn sheet_version() -> u32 {
 /// The call over a log: 15 and `out` as it was if that has under 12 bytes, else 0 and the twelve bytes.
 pub(crate) fn call(sheet: &[u8], log: &[u8], budget: u32, out: &mut [u8]) -> u32 {
     // SAFETY: each pointer comes with its slice's length, and `out`, borrowed mutably, overlaps neither of the others.
-    unsafe { guard2_run(sheet.as_ptr(), sheet.len(), log.as_ptr(), log.len(), budget, out.as_mut_ptr(), out.len()) }
+    unsafe { guard3_run(sheet.as_ptr(), sheet.len(), log.as_ptr(), log.len(), budget, out.as_mut_ptr(), out.len()) }
 }
 
 /// Reads a sheet into a book's words and makes a fresh monitor; a refused sheet changes neither.
 pub(crate) fn open(sheet: &[u8], tables: &mut Tables, monitor: &mut Words) -> u64 {
     // SAFETY: the sheet's pointer comes with its length; both arrays have the lengths that the call wants, by their types; all are distinct, since those are borrowed mutably.
-    unsafe { guard2_open(sheet.as_ptr(), sheet.len(), tables.as_mut_ptr(), monitor.as_mut_ptr()) }
+    unsafe { guard3_open(sheet.as_ptr(), sheet.len(), tables.as_mut_ptr(), monitor.as_mut_ptr()) }
 }
 
 /// Makes a fresh monitor, the same for every book.
 pub(crate) fn start(monitor: &mut Words) {
     // SAFETY: the monitor has the length that the call wants, by its type, and is borrowed mutably.
-    unsafe { guard2_start(monitor.as_mut_ptr()) }
+    unsafe { guard3_start(monitor.as_mut_ptr()) }
 }
 
 /// One event. Every name of 64 or more is refused, 255 too.
 pub(crate) fn event(tables: &Tables, monitor: &mut Words, name: u32, time: u32) -> u64 {
     // SAFETY: both arrays have the lengths that the call wants, by their types; it only reads the book, and the monitor, borrowed mutably, is apart from it.
-    unsafe { guard2_event(tables.as_ptr(), monitor.as_mut_ptr(), name, time) }
+    unsafe { guard3_event(tables.as_ptr(), monitor.as_mut_ptr(), name, time) }
 }
 
 /// One clock reading.
 pub(crate) fn clock(tables: &Tables, monitor: &mut Words, time: u32) -> u64 {
     // SAFETY: as for `event`.
-    unsafe { guard2_clock(tables.as_ptr(), monitor.as_mut_ptr(), time) }
+    unsafe { guard3_clock(tables.as_ptr(), monitor.as_mut_ptr(), time) }
 }
 
 /// The verdict that a monitor holds.
 pub(crate) fn verdict(monitor: &Words) -> u64 {
     // SAFETY: the monitor has the length that the call wants, by its type, and is only read.
-    unsafe { guard2_verdict(monitor.as_ptr()) }
+    unsafe { guard3_verdict(monitor.as_ptr()) }
 }
 
 /// The number of observations that a monitor has taken.
 pub(crate) fn taken(monitor: &Words) -> u32 {
     // SAFETY: as for `verdict`.
-    unsafe { guard2_taken(monitor.as_ptr()) }
+    unsafe { guard3_taken(monitor.as_ptr()) }
 }
 
 #[cfg(test)]

@@ -1,32 +1,27 @@
--- `book::book_of` meets its contract: the pages as they are, and the table made of them. Assumes nothing.
-use mathlib.Core.Path.{_≡_}
+-- `book::book_of` meets its contract: the table of the pages, with version and outputs stored last. Assumes nothing.
+use mathlib.Core.Path.{ap}
 use mathlib.Core.List.{List}
 use Prim.Native.Nat.{ℕ}
-use Rattle.sheet.specs.declared.Pages.{Pages}
-use Rattle.book.specs.Tables.{tableOf}
-use Rattle.book.specs.Books.{bookFrom}
-use Rattle.book.specs.declared.Book.{Book}
+use lib.ListN.{set}
+use Rattle.tables.specs.Cells.{versionAt, outputsAt}
 use borrow.Author.Needs.{needs}
 use Rattle.book.proofs.book_of.Statement.{statement}
 use Rattle.book.proofs.book_of.Tie as tie
 
-made : (p : Pages) {table : List ℕ} → table ≡ tableOf (p .heads) (p .fragments) (p .ranges) (p .count)
-    → _≡_ {A = Book} (record {
-      version = bookFrom p .version;
-      outputs = bookFrom p .outputs;
-      count = bookFrom p .count;
-      heads = bookFrom p .heads;
-      fragments = bookFrom p .fragments;
-      ranges = bookFrom p .ranges;
-      table = table;
-    }) (bookFrom p)
-made p e = rw e
+rules-of-requires : tie.Need-rules-of-requires
+rules-of-requires c κs = search needs
 
-table-of-requires : tie.Need-table-of-requires
-table-of-requires c κs = search needs
+cast-table : tie.Need-cast-table
+cast-table c = search needs
+
+array-write-table : tie.Need-array-write-table
+array-write-table c = search needs
+
+array-write-table-2 : tie.Need-array-write-table-2
+array-write-table-2 c = search needs
 
 returns : tie.Need-returns
-returns c = made (c .before .before .before .before .before .before .before .args .pages) (c .table-of .ensures)
+returns c = ap (λ (t : List ℕ). record { table = set (set t versionAt (c .before .before .before .before .before .before .before .before .args .pages .version)) outputsAt (c .before .before .before .before .before .before .before .before .args .pages .outputs) }) (c .before .rules-of .ensures)
 
 pub book-of-spec : {M : Type 1} → statement M
-book-of-spec = tie.close (tie.spec table-of-requires returns)
+book-of-spec = tie.close (tie.spec rules-of-requires cast-table array-write-table array-write-table-2 returns)

@@ -1,7 +1,7 @@
--- `live::guard2_event` keeps its promise. Assumes nothing.
+-- `live::guard3_event` keeps its promise. Assumes nothing.
 use borrow.Author.Needs.{needs}
-use Rattle.live.proofs.guard2_event.Statement.{statement}
-use Rattle.live.proofs.guard2_event.Tie as tie
+use Rattle.live.proofs.guard3_event.Statement.{statement}
+use Rattle.live.proofs.guard3_event.Tie as tie
 
 note-requires : tie.Need-note-requires
 note-requires c κs = search needs
@@ -13,5 +13,5 @@ returns : tie.Need-returns
 returns c =
     record { answer = c .before .note .result; number = c .answer-word .ensures; observes = c .before .note .ensures }
 
-pub guard2-event-spec : {M : Type 1} → statement M
-guard2-event-spec = tie.close (tie.spec note-requires answer-word-requires returns)
+pub guard3-event-spec : {M : Type 1} → statement M
+guard3-event-spec = tie.close (tie.spec note-requires answer-word-requires returns)

@@ -1,4 +1,4 @@
--- `book::table_of` meets its contract: the sets, the masks, then the rules. Assumes nothing.
+-- `book::rules_of` meets its contract: the sets, the masks, then the rules. Assumes nothing.
 use mathlib.Core.Path.{_≡_, _∙_}
 use mathlib.Core.List.{List}
 use Prim.Native.Nat.{ℕ}
@@ -7,14 +7,14 @@ use lib.ListN.{replicate}
 use Rattle.tables.specs.Words.{cap}
 use Rattle.tables.specs.Cells.{tableLength}
 use Rattle.tables.proofs.Bounds.{cap-small}
-use Rattle.book.specs.Tables.{stored, inTurn, nameTable, ruleTable, maskOf, putRule, tableOf}
+use Rattle.book.specs.Tables.{stored, inTurn, nameTable, ruleTable, maskOf, putRule, rulesOf}
 use borrow.Author.Needs.{needs}
-use Rattle.book.proofs.table_of.Statement.{statement}
-use Rattle.book.proofs.table_of.Tie as tie
+use Rattle.book.proofs.rules_of.Statement.{statement}
+use Rattle.book.proofs.rules_of.Tie as tie
 
 made : (heads fragments ranges : List ℕ) (count : ℕ) {n : ℕ} {names sets masks table : List ℕ} → n ≡ cap 16 count → names ≡ nameTable fragments ranges → sets ≡ ruleTable heads names
-    → masks ≡ stored (λ m. maskOf sets m n) 64 (replicate tableLength 0) → table ≡ inTurn (putRule heads fragments ranges) n masks → table ≡ tableOf heads fragments ranges count
-unfolding tableOf
+    → masks ≡ stored (λ m. maskOf sets m n) 64 (replicate tableLength 0) → table ≡ inTurn (putRule heads fragments ranges) n masks → table ≡ rulesOf heads fragments ranges count
+unfolding rulesOf
 made heads fragments ranges count en ea es em et = et ∙ rw (em, es, ea, en)
 
 few-requires : tie.Need-few-requires
@@ -35,5 +35,5 @@ put-rules-requires c κs = omega (arith, c .before .before .before .before .befo
 returns : tie.Need-returns
 returns c = made (c .before .before .before .before .before .before .before .before .before .args .heads .now) (c .before .before .before .before .before .before .before .before .before .args .fragments .now) (c .before .before .before .before .before .before .before .before .before .args .ranges .now) (c .before .before .before .before .before .before .before .before .before .args .count) (c .before .before .before .before .before .before .before .before .few .ensures) (c .before .before .before .before .before .before .before .name-table .ensures) (c .before .before .before .before .before .rule-table .ensures) (c .before .before .put-masks .ensures) (c .put-rules .ensures)
 
-pub table-of-spec : {M : Type 1} → statement M
-table-of-spec = tie.close (tie.spec few-requires name-table-requires rule-table-requires put-masks-requires put-rules-requires returns)
+pub rules-of-spec : {M : Type 1} → statement M
+rules-of-spec = tie.close (tie.spec few-requires name-table-requires rule-table-requires put-masks-requires put-rules-requires returns)

@@ -1,9 +1,9 @@
--- `live::guard2_verdict` keeps its promise. Assumes nothing.
+-- `live::guard3_verdict` keeps its promise. Assumes nothing.
 use mathlib.Core.Path.{_∙_, ap}
 use Rattle.replies.specs.Replies.{wordOf}
 use borrow.Author.Needs.{needs}
-use Rattle.live.proofs.guard2_verdict.Statement.{statement}
-use Rattle.live.proofs.guard2_verdict.Tie as tie
+use Rattle.live.proofs.guard3_verdict.Statement.{statement}
+use Rattle.live.proofs.guard3_verdict.Tie as tie
 
 verdict-requires : tie.Need-verdict-requires
 verdict-requires c κs = search needs
@@ -15,5 +15,5 @@ returns : tie.Need-returns
 returns c =
     c .answer-word .ensures ∙ ap wordOf (c .before .verdict .ensures)
 
-pub guard2-verdict-spec : {M : Type 1} → statement M
-guard2-verdict-spec = tie.close (tie.spec verdict-requires answer-word-requires returns)
+pub guard3-verdict-spec : {M : Type 1} → statement M
+guard3-verdict-spec = tie.close (tie.spec verdict-requires answer-word-requires returns)

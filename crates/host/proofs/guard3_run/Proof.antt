@@ -1,8 +1,8 @@
--- `host::guard2_run` keeps its promise: the output first, then the five numbers. Assumes nothing.
+-- `host::guard3_run` keeps its promise: the output first, then the five numbers. Assumes nothing.
 use Rattle.host.proofs.Outcomes.{too-short, written}
 use borrow.Author.Needs.{needs}
-use Rattle.host.proofs.guard2_run.Statement.{statement}
-use Rattle.host.proofs.guard2_run.Tie as tie
+use Rattle.host.proofs.guard3_run.Statement.{statement}
+use Rattle.host.proofs.guard3_run.Tie as tie
 
 returns : tie.Need-returns
 returns c =
@@ -24,6 +24,6 @@ returns-2 c =
     let s = t .before .before .before .before .args in
     written (s .sheet .now) (s .log .now) (s .budget) (s .out .now) _ (t .if1 .left) (c .before .before .before .before .outcome .ensures) (c .before .before .put-outcome .ensures)
 
-pub guard2-run-spec : {M : Type 1} → statement M
-guard2-run-spec =
+pub guard3-run-spec : {M : Type 1} → statement M
+guard3-run-spec =
     tie.close (tie.spec returns outcome-requires put-outcome-requires same-length returns-2)

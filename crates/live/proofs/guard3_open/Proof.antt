@@ -1,11 +1,11 @@
--- `live::guard2_open` keeps its promise, by the reader's answer. The place of a refusal fits a u32, however long the sheet is. Assumes nothing.
+-- `live::guard3_open` keeps its promise, by the reader's answer. The place of a refusal fits a u32, however long the sheet is. Assumes nothing.
 use native.Mathlib.Omega.{arith}
 use Rattle.layout.proofs.Fields.{bytes-of}
 use Rattle.book.proofs.Translated.{place-fits}
 use Rattle.live.proofs.Lending.{opens-accepted, opens-refused}
 use borrow.Author.Needs.{needs}
-use Rattle.live.proofs.guard2_open.Statement.{statement}
-use Rattle.live.proofs.guard2_open.Tie as tie
+use Rattle.live.proofs.guard3_open.Statement.{statement}
+use Rattle.live.proofs.guard3_open.Tie as tie
 
 translate-requires : tie.Need-translate-requires
 translate-requires c κs = search needs
@@ -41,8 +41,8 @@ returns-2 c =
     let t = c .before .before .before .before .translate in
     opens-refused sheet (t .result) (t .ensures) _ (c .before .before .answer .given .1) _ (c .refused-word .ensures)
 
-pub guard2-open-spec : {M : Type 1} → statement M
-guard2-open-spec =
+pub guard3-open-spec : {M : Type 1} → statement M
+guard3-open-spec =
     tie.close
     (tie.spec
     translate-requires

@@ -1,7 +1,7 @@
--- `live::guard2_clock` keeps its promise. Assumes nothing.
+-- `live::guard3_clock` keeps its promise. Assumes nothing.
 use borrow.Author.Needs.{needs}
-use Rattle.live.proofs.guard2_clock.Statement.{statement}
-use Rattle.live.proofs.guard2_clock.Tie as tie
+use Rattle.live.proofs.guard3_clock.Statement.{statement}
+use Rattle.live.proofs.guard3_clock.Tie as tie
 
 tick-requires : tie.Need-tick-requires
 tick-requires c κs = search needs
@@ -13,5 +13,5 @@ returns : tie.Need-returns
 returns c =
     record { answer = c .before .tick .result; number = c .answer-word .ensures; observes = c .before .tick .ensures }
 
-pub guard2-clock-spec : {M : Type 1} → statement M
-guard2-clock-spec = tie.close (tie.spec tick-requires answer-word-requires returns)
+pub guard3-clock-spec : {M : Type 1} → statement M
+guard3-clock-spec = tie.close (tie.spec tick-requires answer-word-requires returns)
