@@ -39,17 +39,17 @@ cell-at-requires-2 c κs = search needs
 cell-at-requires-3 : tie.Need-cell-at-requires-3
 cell-at-requires-3 c κs = search needs
 
-add-limit-in : tie.Need-add-limit-in
-add-limit-in c = search needs
+add-time : tie.Need-add-time
+add-time c = search needs
 
-mul-limit-in : tie.Need-mul-limit-in
-mul-limit-in c = search needs
+mul-time : tie.Need-mul-time
+mul-time c = search needs
 
-element-copy-out-limit-in : tie.Need-element-copy-out-limit-in
-element-copy-out-limit-in c = search needs
+element-copy-out-time : tie.Need-element-copy-out-time
+element-copy-out-time c = search needs
 
-limit-in-requires : tie.Need-limit-in-requires
-limit-in-requires c κs = search needs
+time-requires : tie.Need-time-requires
+time-requires c κs = search needs
 
 late-requires : tie.Need-late-requires
 late-requires c κs = search needs
@@ -68,7 +68,7 @@ returns-4 c =
       e .before .before .if3 .left,
       ← e .before .cell-at2 .ensures,
       ← e .cell-at3 .ensures,
-      ← c .before .before .before .limit-in .ensures,
+      ← c .before .before .before .time .ensures,
       ← c .before .before .late .ensures,
       c .before .if4 .taken,
     )
@@ -91,7 +91,7 @@ returns-5 c =
       d .before .before .if3 .left,
       ← d .before .cell-at2 .ensures,
       ← d .cell-at3 .ensures,
-      ← e .before .before .before .limit-in .ensures,
+      ← e .before .before .before .time .ensures,
       ← e .before .before .late .ensures,
       e .before .if4 .left,
       ← e .fragment-in2 .ensures,
@@ -114,7 +114,7 @@ returns-6 c =
       d .before .before .if3 .left,
       ← d .before .cell-at2 .ensures,
       ← d .cell-at3 .ensures,
-      ← e .before .before .before .limit-in .ensures,
+      ← e .before .before .before .time .ensures,
       ← e .before .before .late .ensures,
       e .before .if4 .left,
       ← e .fragment-in2 .ensures,
@@ -137,7 +137,7 @@ returns-7 c =
       d .if3 .left,
       ← e .before .before .before .before .cell-at2 .ensures,
       ← e .before .before .before .cell-at3 .ensures,
-      ← e .before .limit-in .ensures,
+      ← e .before .time .ensures,
       ← e .late .ensures,
       c .before .before .before .before .if4 .left,
       ← c .before .before .before .fragment-in2 .ensures,
@@ -158,10 +158,10 @@ act-spec =
     returns-3
     cell-at-requires-2
     cell-at-requires-3
-    add-limit-in
-    mul-limit-in
-    element-copy-out-limit-in
-    limit-in-requires
+    add-time
+    mul-time
+    element-copy-out-time
+    time-requires
     late-requires
     broken-requires-2
     returns-4
