@@ -4,7 +4,7 @@ ghost use mathlib.Core.Bool.{cond};
 ghost use Prim.Native.Nat.{ℕ, _<_, _≤_};
 ghost use Rattle.names.specs.Names.{member, insert};
 ghost use Rattle.tables.specs.Words.{cap, roundIn};
-ghost use Rattle.book.specs.Tables.{stored, inTurn, fragmentSet, nameTable, ruleSet, ruleTable, maskOf, putCell, putFragment, putRule, rulesOf};
+ghost use Rattle.book.specs.Tables.{stored, inTurn, fragmentSet, nameTable, ruleSet, ruleTable, maskOf, putCell, putFragment, putRule, tableOf};
 ghost use Rattle.book.specs.Books.{Translates, bookFrom};
 use tables::Table;
 
@@ -195,14 +195,16 @@ pub struct Translation {
     pub book: Book,
 }
 
-// The table of a sheet's pages, but for the version and the outputs.
-fn rules_of<'a>(
+// The table of a sheet's pages.
+fn table_of<'a>(
     heads: &'a [u64; 16],
     fragments: &'a [u16; 256],
     ranges: &'a [u64; 2048],
     count: u8,
+    version: u16,
+    outputs: u64,
 ) -> Table
-    ensures { λ x. ⌜ x ≡ rulesOf (now (heads .entry)) (now (fragments .entry)) (now (ranges .entry)) count ⌝ }
+    ensures { λ x. ⌜ x ≡ tableOf (now (heads .entry)) (now (fragments .entry)) (now (ranges .entry)) count version outputs ⌝ }
 {
     let n = few(count);
     let names = name_table(fragments, ranges);
@@ -210,6 +212,8 @@ fn rules_of<'a>(
     let mut table = [0u64; tables::LENGTH];
     put_masks(&mut table, &sets, n);
     put_rules(&mut table, heads, fragments, ranges, n);
+    table[tables::VERSION] = version as u64;
+    table[tables::OUTPUTS] = outputs;
     table
 }
 
@@ -220,9 +224,14 @@ fn book_of(pages: sheet::Pages) -> Book
     let heads = pages.heads;
     let fragments = pages.fragments;
     let ranges = pages.ranges;
-    let mut table = rules_of(&heads, &fragments, &ranges, pages.count);
-    table[tables::VERSION] = pages.version as u64;
-    table[tables::OUTPUTS] = pages.outputs;
+    let table = table_of(
+        &heads,
+        &fragments,
+        &ranges,
+        pages.count,
+        pages.version,
+        pages.outputs,
+    );
     Book { table: table }
 }
 

@@ -8,7 +8,8 @@ use lib.Dec.{ltb}
 use borrow.Author.Tests.{le-ltb, ltb-false}
 use Rattle.bits.specs.Bits.{part}
 use Rattle.layout.specs.Reading.{byKind}
-use Rattle.tables.specs.Words.{cap, mostRanges, kindIn, countPIn, countQIn, roundIn, countIn}
+use Rattle.layout.specs.Layout.{mostRanges}
+use Rattle.tables.specs.Words.{cap, kindIn, countPIn, countQIn, roundIn, countIn}
 
 pub cap-of : (most n : ℕ) → n ≤ most → cap most n ≡ n
 cap-of most n h = rw (le-ltb most n h)

@@ -4,6 +4,7 @@ use mathlib.Core.Bool.{cond}
 use Prim.Native.Nat.{ℕ, _+_, _%_}
 use lib.Dec.{ltb}
 use Rattle.bits.specs.Bits.{part}
+use Rattle.layout.specs.Layout.{mostRanges}
 use Rattle.layout.specs.Reading.{byKind}
 
 -- at most so many
@@ -35,10 +36,6 @@ roundIn head = cap 16 (countPIn head + byKind (kindIn head) (countQIn head) 1)
 
 abbrev pub joinIn : ℕ → ℕ
 joinIn word = part 0 8 word
-
--- "1 to 8 ranges"
-abbrev pub mostRanges : ℕ
-mostRanges = 8
 
 -- ranges in the fragment: at most 8, whatever the number
 unfoldable pub countIn : ℕ → ℕ
