@@ -8,10 +8,17 @@ use lib.ListN.{length, getD, set, replicate, length-set}
 use lib.Seq.{getD-set-same, getD-set-other}
 use Rattle.step.specs.declared.RuleState.{RuleState}
 use Rattle.fragment.specs.Upto.{mapN, mapN-more, length-mapN}
-use Rattle.words.specs.Words.{memoryLength, progressAt, lastAt, stateIn, stateAt, noState, ruleFrom, rulesIn, Held, heldBy, Fits, Holds, Clean, withRules, nothingTaken, Stores}
+use Rattle.words.specs.Words.{memoryLength, progressAt, lastAt, stateIn, noState, rulesIn, Held, heldBy, Fits, Holds, Clean, withRules, nothingTaken, Stores}
 use Rattle.words.proofs.Places.{mapN-within, set-mapN, getD-mapN}
 
 -- ---- the rules
+
+-- what two words of the list hold, for rule r
+abbrev pub stateAt : List ℕ → ℕ → RuleState
+stateAt words r = stateIn (getD words (2 * r) 0) (getD words (2 * r + 1) 0)
+
+abbrev ruleFrom : List ℕ → ℕ → RuleState → RuleState
+ruleFrom words r st = stateAt words r
 
 pub sixteen : (words : List ℕ) → length (heldBy words .rules) ≡ 16
 unfolding rulesIn

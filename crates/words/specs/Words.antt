@@ -9,10 +9,6 @@ use Rattle.step.specs.declared.RuleState.{RuleState}
 use Rattle.fragment.specs.Upto.{mapN}
 use Rattle.fragment.specs.Fragments.{zeros, digits}
 
--- so many words: two of each of the sixteen rules, then the monitor's own two
-abbrev pub memoryLength : ℕ
-memoryLength = 34
-
 -- ---- a rule's two words
 
 -- the state of a rule: in the first word the eight recogniser states, a byte each, the first range's lowest; in the second its fragment number, a byte; the name whose range counts, the
@@ -20,18 +16,12 @@ memoryLength = 34
 unfoldable pub stateIn : ℕ → ℕ → RuleState
 stateIn states place = record { fragment = place % 256; current = place / 256 % 256; states = digits 8 states; count = place / 65536 % 65536; end = place / 4294967296 % 4294967296 }
 
-abbrev pub stateAt : List ℕ → ℕ → RuleState
-stateAt words r = stateIn (getD words (2 * r) 0) (getD words (2 * r + 1) 0)
-
 -- a state for numbers past the sixteenth, which are not looked at
 abbrev pub noState : RuleState
 noState = record { fragment = 0; current = 0; states = zeros; count = 0; end = 0 }
 
-abbrev pub ruleFrom : List ℕ → ℕ → RuleState → RuleState
-ruleFrom words r st = stateAt words r
-
 unfoldable pub rulesIn : List ℕ → List RuleState
-rulesIn words = mapN (ruleFrom words) 0 16 (replicate 16 noState)
+rulesIn words = mapN (λ r st. stateIn (getD words (2 * r) 0) (getD words (2 * r + 1) 0)) 0 16 (replicate 16 noState)
 
 -- ---- the monitor: what its words hold
 
@@ -62,9 +52,10 @@ heldBy words = record {
   dues = getD words lastAt 0 / 4294967296 % 65536;
 }
 
--- ---- the relation
+-- as many words as a monitor has: two for each of the sixteen rules, and its own two
+abbrev pub memoryLength : ℕ
+memoryLength = 34
 
--- as many words as a monitor has
 abbrev pub Fits : List ℕ → Type 0
 Fits words = length words ≡ memoryLength
 
