@@ -1,6 +1,6 @@
 -- `opening::unstarted` meets its contract. After r turns the first r rules are fresh, and nothing else is held. The measure is what is left of the 16. Assumes nothing.
 use mathlib.Core.Path.{_≡_, refl}
-use Prim.Native.Nat.{ℕ, _≤_, _-_}
+use Prim.Native.Nat.{ℕ, _≤_, _<_, _-_}
 use native.Mathlib.Omega.{arith}
 use Rattle.step.specs.declared.RuleState.{RuleState}
 use Rattle.fragment.specs.Upto.{mapN}
@@ -34,8 +34,9 @@ loop-less c = search needs
 
 loop-again : tie.Need-loop-again Inv-loop μ-loop
 loop-again c =
-    let more = c .before .before .loop-test .taken in
-    (omega (arith, more), one-more anew more refl (c .store .ensures) (c .before .before .before .loop .inv .1))
+    let turn = c .before .before .before .loop in
+    let h : turn .r < 16 = omega (arith, c .before .before .loop-test .taken) in
+    (omega arith, one-more anew h refl (c .store .ensures) (turn .inv .1))
 
 returns : tie.Need-returns Inv-loop μ-loop
 unfolding freshHeld

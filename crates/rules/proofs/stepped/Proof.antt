@@ -22,7 +22,7 @@ returns c was h =
     let act = c .before .before .before in
     let own : act .before .before .before .args .r % 16 ≡ act .before .before .before .args .r = omega (arith, act .before .before .before .pre) in
     let e = rw (act .before .load .ensures, own, ap (λ (x : Held). x .rules) (h .held)) at (act .act .ensures) in
-    record { stands = ap (λ (s : Stepped). s .standing) e; holds = rw (own, ap (λ (s : Stepped). s .state) e) at (c .store .ensures .holds h) }
+    record { stands = ap (λ (s : Stepped). s .standing) e; holds = rw (← e, ← own) (c .store .ensures .holds h) }
 
 pub stepped-spec : {M : Type 1} → statement M
 stepped-spec = tie.close (tie.spec load-requires act-requires store-requires returns)

@@ -1,8 +1,9 @@
 -- `value::rules_of` meets its contract. After r turns the first r states are those that the words hold. The measure is what is left of the 16. Assumes nothing.
-use mathlib.Core.Path.{_≡_, refl, _∙_}
-use Prim.Native.Nat.{_%_, _≤_, _<_, _-_}
+use mathlib.Core.Path.{_≡_, refl, ap, _∙_}
+use Prim.Native.Nat.{ℕ, _%_, _≤_, _<_, _-_}
 use native.Mathlib.Omega.{arith}
 use denote.Ref.{now}
+use lib.ListN.{getD}
 use Rattle.fragment.specs.Upto.{mapN, mapN-more}
 use Rattle.words.specs.Words.{noState, heldBy}
 use Rattle.words.proofs.Laws.{blank, sixteen}
@@ -41,7 +42,7 @@ loop-again c =
     let w = now (c .before .before .before .args .w) in
     let h : turn .r < 16 = c .before .loop-test .taken in
     let e : turn .r % 16 ≡ turn .r = omega arith in
-    (omega arith, rw (turn .inv .1, c .load .ensures, e) (mapN-more (given (heldBy w .rules)) (turn .r) blank noState h))
+    (omega arith, rw (turn .inv .1, c .load .ensures ∙ ap (λ (i : ℕ). getD (heldBy w .rules) i noState) e) (mapN-more (given (heldBy w .rules)) (turn .r) blank noState h))
 
 returns : tie.Need-returns Inv-loop μ-loop
 returns c =
