@@ -131,7 +131,9 @@ const NEWEST: u64 = 1;
 // The most rules of a sheet.
 const MOST_RULES: u64 = 16;
 
-// The last kind.
+// The kinds of every version.
+const FIRST_KIND: u64 = 0;
+
 const LAST_KIND: u64 = 2;
 
 // The last join of version 1.
@@ -144,13 +146,6 @@ const LAST_NAME: u8 = 63;
 pub const MOST_FRAGMENTS: u64 = 8;
 
 pub const MOST_RANGES: u64 = 8;
-
-// The first kind that a version allows.
-fn first_kind(version: u64) -> u64
-    ensures { λ r. ⌜ r ≡ today .firstKind version ⌝ }
-{
-    0
-}
 
 // The last join that a version allows.
 fn last_join(version: u64) -> u64
@@ -177,7 +172,7 @@ pub fn kind(s: &[u8], at: usize, version: u64) -> Found
     requires { ⌜ at ≤ length (now s) ⌝ }
     ensures { λ r. ⌜ Told (now (s .entry)) (r .fault) (r .at) (Within (today .firstKind version) lastKind (r .value)) (fieldAt (now (s .entry)) 1 (kindFault today version) at) ⌝ }
 {
-    between(s, at, 1, first_kind(version), LAST_KIND, 4)
+    between(s, at, 1, FIRST_KIND, LAST_KIND, 4)
 }
 
 pub fn join(s: &[u8], at: usize, version: u64) -> Found
