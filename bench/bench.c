@@ -93,10 +93,12 @@ static unsigned told(uint64_t word) { return (uint8_t)word; }
 SESSION(guard, guard_told)
 SESSION(hand, told)
 SESSION(hand_rs, told)
+SESSION(cells, told)
 SESSION(none, told)
 OPENED(guard, guard_told)
 OPENED(hand, told)
 OPENED(hand_rs, told)
+OPENED(cells, told)
 
 static uint32_t none_run(const uint8_t *sheet, size_t sheet_length, const uint8_t *log, size_t log_length, uint32_t budget, uint8_t *out, size_t out_length)
 {
@@ -120,7 +122,7 @@ typedef struct contestant {
 } contestant;
 
 #define CONTESTANT(id) {#id, id##_run, id##_opened, id##_session}
-static const contestant contestants[] = {CONTESTANT(guard), CONTESTANT(hand), CONTESTANT(hand_rs), CONTESTANT(none)};
+static const contestant contestants[] = {CONTESTANT(guard), CONTESTANT(hand), CONTESTANT(hand_rs), CONTESTANT(cells), CONTESTANT(none)};
 enum { CONTESTANTS = sizeof contestants / sizeof *contestants };
 static lent memory;
 

@@ -38,8 +38,9 @@ static uint64_t itself(uint64_t word)
 CALLS(guard, word)
 CALLS(hand, itself)
 CALLS(hand_rs, itself)
+CALLS(cells, itself)
 
-static const contestant contestants[] = {CONTESTANT(guard), CONTESTANT(hand), CONTESTANT(hand_rs)};
+static const contestant contestants[] = {CONTESTANT(guard), CONTESTANT(hand), CONTESTANT(hand_rs), CONTESTANT(cells)};
 
 static uint32_t number(const uint8_t *p, size_t n)
 {

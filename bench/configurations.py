@@ -10,11 +10,10 @@ from collections import namedtuple
 
 sys.dont_write_bytecode = True
 sys.path.insert(0, os.path.join(os.path.dirname(os.path.abspath(__file__)), '..', 'reference'))
-from guard import CLOCK, Fragment, Range, Rule, Sheet
+from guard import ALL, ALL_SHUFFLED, ANY, ANY_SHUFFLED, CLOCK, Fragment, Range, Rule, Sheet
 from sheets import written
 
 ONCE, REPEATED, TIMED = 0, 1, 2
-ALL, ANY = 0, 1
 FOREIGN = 63
 
 # figure and table: (operations, bits) that the papers give the direct monitor, Figure 6 of document 003 and Table 7.2 of document 000
@@ -38,9 +37,10 @@ def timed(p, q, t):
 
 
 def sheet(*rules):
-    """The names of every Q are outputs, and all others inputs."""
+    """The names of every Q are outputs, and all others inputs. The version is 2 where a fragment is shuffled."""
     outputs = {r.name for rule in rules for f in rule.q for r in f.ranges}
-    return Sheet(sum(1 << n for n in outputs), rules)
+    shuffled = any(f.join in (ALL_SHUFFLED, ANY_SHUFFLED) for rule in rules for f in rule.p + rule.q)
+    return Sheet(sum(1 << n for n in outputs), rules, 2 if shuffled else 1)
 
 
 # ---------------------------------------------------------------------------------------------
@@ -60,9 +60,9 @@ def within(a=0, t=1000):
     return timed((some(ANY, a, a + 1),), (one(a + 2, 2, 4), one(a + 3)), t)
 
 
-def disjoint(shape):
+def disjoint(shape, names=ROUND):
     """Sixteen rules with four names each; their rounds go side by side, so that every record concerns one of them in turn."""
-    return sheet(*(shape(4 * r) for r in range(16))), [4 * r + n for n in ROUND for r in range(16)]
+    return sheet(*(shape(4 * r) for r in range(16))), [4 * r + n for n in names for r in range(16)]
 
 
 def general():
@@ -92,6 +92,50 @@ def case_study():
     for i in range(3):
         names += [read[i]] * 100 + [irq_pos[i], irq_neg[i]]
     return sheet(*rules), (), names
+
+
+# ---------------------------------------------------------------------------------------------
+# Shuffled fragments: each range three times, one after the other in turn, so that every record but the trigger's is on another range than the one before
+# ---------------------------------------------------------------------------------------------
+
+def fragment(join, count, a=0):
+    return Fragment(join, tuple(Range(a + i, 2, 4) for i in range(count)))
+
+
+def mixed(count, a=0):
+    return requirement(REPEATED, (fragment(ALL_SHUFFLED, count, a),), a + count)
+
+
+def in_turn(count):
+    return [*range(count)] * 3 + [count]
+
+
+def in_blocks(count):
+    return [n for n in range(count) for _ in range(3)] + [count]
+
+
+def shuffled():
+    for count, names in ((2, 'n1,n2'), (4, 'n1..n4'), (8, 'n1..n8')):
+        title = '({%s}[2,4],∧,shuffled) ≪ i, repeated' % names
+        yield Configuration('shuffled', '1 rule: ' + title, sheet(mixed(count)), (), in_turn(count))
+        if count < 4: # of the others sixteen have more than 64 names
+            rules, round_of_all = disjoint(lambda a: mixed(count, a), in_turn(count))
+            yield Configuration('shuffled', '16 such rules of %d ranges, disjoint names' % count, rules, (), round_of_all)
+        yield Configuration('shuffled', '16 such rules of %d ranges, the same names' % count, sheet(*[mixed(count)] * 16), (), in_turn(count))
+    blocks = requirement(REPEATED, (fragment(ALL, 8),), 8)
+    yield Configuration('shuffled', '1 rule: ({n1..n8}[2,4],∧) ≪ i, repeated: in blocks', sheet(blocks), (), in_blocks(8))
+    some_of_four = timed((one(4),), (fragment(ANY_SHUFFLED, 4),), 1000)
+    yield Configuration('shuffled', '1 rule: n ⇒ ({n1..n4}[2,4],∨,shuffled), t', sheet(some_of_four), (), [4] + in_turn(4)[:-1])
+    yield Configuration('shuffled', '1 rule: T1-IPU, the two kinds of read in turn', *alternating())
+
+
+def alternating():
+    """The image processing unit of document 000, section 3.4.2: between fragments of one range a shuffled one of two, whose calls alternate, 100 of each. The thesis has
+    [10000,2000000] for the gallery, which is beyond a sheet's v."""
+    set_addr, start, image, gallery, irq_pos, irq_neg = range(6)
+    reads = Fragment(ALL_SHUFFLED, (Range(image, 100, 19000), Range(gallery, 100, 65535)))
+    rule = timed((one(set_addr), one(start)), (reads, one(irq_pos), one(irq_neg)), 500)
+    return sheet(rule), (), [set_addr, start] + [image, gallery] * 100 + [irq_pos, irq_neg]
 
 
 # ---------------------------------------------------------------------------------------------
@@ -161,7 +205,7 @@ def entry(c):
 if __name__ == '__main__':
     print('enum { FOREIGN = %d }; /* a name that no rule of a paper\'s configuration has */\n' % FOREIGN)
     print('static const configuration configurations[] = {')
-    for group in (general(), papers(), quiet()):
+    for group in (general(), shuffled(), papers(), quiet()):
         for configuration in group:
             print(entry(configuration))
     print('};')

@@ -1,12 +1,13 @@
-/* What is measured: the proved guard, the two written by hand, and a call that does nothing. */
+/* What is measured: the proved guard, the three written by hand, and a call that does nothing. */
 #ifndef CONTESTANTS_H
 #define CONTESTANTS_H
 
 #include "../include/guard.h"
+#include "cells.h"
 #include "hand.h"
 
 /* bench/hand.rs: the same calls as hand.h's, over memory that the host lends and does not read. */
-enum { HAND_RS_BOOK_WORDS = 2560, HAND_RS_MONITOR_WORDS = 34 };
+enum { HAND_RS_BOOK_WORDS = 2560, HAND_RS_MONITOR_WORDS = 66 };
 
 typedef struct hand_rs_book {
     uint64_t words[HAND_RS_BOOK_WORDS];
@@ -43,6 +44,8 @@ typedef struct lent {
     hand_monitor hand_monitor;
     hand_rs_book hand_rs_book;
     hand_rs_monitor hand_rs_monitor;
+    cells_book cells_book;
+    cells_monitor cells_monitor;
     none_book none_book;
     none_monitor none_monitor;
 } lent;

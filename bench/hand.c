@@ -1,10 +1,11 @@
-/* The guard of document 01 by hand: the sheet's reader, the six-state recogniser, observing and running a log. Words in quotes are document 01's. */
+/* The guard of document 01 by hand, with the shuffled fragments of document 02: the sheet's reader, the six-state recogniser, observing and running a log. Words in quotes are document
+ * 01's. */
 #include "hand.h"
 
-#include <stdbool.h>
 #include <string.h>
 
 enum { ONCE = 0, REPEATED = 1, TIMED = 2 };                                       /* kinds of rules */
+enum { ANY = 1, MIXED = 2 };                                                      /* bits of a join: some of the ranges will do; shuffled */
 enum { IDLE = 0, NOT_BEGUN = 1, WAITING = 2, COUNTING = 3, DONE = 4, ERROR = 5 }; /* states of a range */
 enum { WHOLE = 0, OPEN = 1, BROKEN = 2, REFUSED = 3 };                            /* answers */
 
@@ -21,6 +22,7 @@ typedef struct reader {
     size_t length, at;
     uint64_t outputs;
     uint64_t used; /* the names of the rule so far */
+    uint8_t last_join;
     uint8_t fault;
 } reader;
 
@@ -95,10 +97,25 @@ static bool name_field(reader *r, uint64_t wrong_way, uint8_t *name)
     return pass(r, 1);
 }
 
+/* The version says which joins there are: 0 and 1, and from version 2 on the shuffled ones. */
+static bool read_version(reader *r)
+{
+    uint64_t x;
+    if (!field(r, 2, &x))
+        return false;
+    if (x != 1 && x != 2)
+        return refuse(r, 3);
+    r->last_join = x == 1 ? 1 : 3;
+    return pass(r, 2);
+}
+
 static bool read_fragment(reader *r, bool of_q, hand_fragment *f)
 {
-    if (!between(r, 0, 1, &f->any) || !between(r, 1, HAND_RANGES, &f->count))
+    uint8_t join;
+    if (!between(r, 0, r->last_join, &join) || !between(r, 1, HAND_RANGES, &f->count))
         return false;
+    f->any = join & ANY;
+    f->shuffled = join & MIXED;
     f->names = 0;
     for (unsigned i = 0; i < f->count; i++) {
         hand_range *range = &f->ranges[i];
@@ -111,7 +128,7 @@ static bool read_fragment(reader *r, bool of_q, hand_fragment *f)
 
 static hand_fragment trigger_fragment(uint8_t name)
 {
-    return (hand_fragment){.names = (uint64_t)1 << name, .any = 0, .count = 1, .ranges = {{name, 1, 1}}};
+    return (hand_fragment){.names = (uint64_t)1 << name, .count = 1, .ranges = {{name, 1, 1}}};
 }
 
 /* A rule's eight bytes, after its kind and its count of fragments in P. */
@@ -154,7 +171,7 @@ static bool read_rule(reader *r, hand_rule *rule)
 
 static bool read_sheet(reader *r, hand_book *book)
 {
-    if (!exactly(r, 3, 0x424F4C, 2) || !exactly(r, 2, 1, 3) || !field(r, 8, &r->outputs))
+    if (!exactly(r, 3, 0x424F4C, 2) || !read_version(r) || !field(r, 8, &r->outputs))
         return false;
     pass(r, 8);
     if (!between(r, 1, HAND_RULES, &book->count))
@@ -183,12 +200,12 @@ static inline uint8_t after_own(uint8_t state, unsigned count, unsigned v)
 }
 
 /* The table's column "sibling". */
-static inline uint8_t after_sibling(uint8_t state, unsigned count, unsigned u)
+static inline uint8_t after_sibling(uint8_t state, unsigned count, unsigned u, bool shuffled)
 {
     switch (state) {
     case NOT_BEGUN:
     case WAITING: return WAITING;
-    case COUNTING: return count >= u ? DONE : ERROR;
+    case COUNTING: return shuffled ? COUNTING : count >= u ? DONE : ERROR;
     case DONE: return DONE;
     default: return ERROR;
     }
@@ -214,15 +231,15 @@ static inline bool takes(uint8_t state, unsigned count, unsigned v)
 /* An event on a name of the fragment; false at a range's error. */
 static bool moves(const hand_fragment *f, hand_rule_state *st, unsigned name)
 {
-    unsigned count = st->count;
     for (unsigned i = 0; i < f->count; i++) {
         const hand_range *range = &f->ranges[i];
         uint8_t was = st->states[i];
+        unsigned count = st->counts[i];
         if (range->name == name) {
-            st->count = was == COUNTING ? (uint16_t)(count + 1) : 1;
+            st->counts[i] = (uint16_t)(count + 1);
             st->states[i] = after_own(was, count, range->v);
         } else {
-            st->states[i] = after_sibling(was, count, range->u);
+            st->states[i] = after_sibling(was, count, range->u, f->shuffled);
         }
         if (st->states[i] == ERROR)
             return false;
@@ -233,16 +250,22 @@ static bool moves(const hand_fragment *f, hand_rule_state *st, unsigned name)
 /* The first event of a fragment. */
 static void begin(const hand_fragment *f, hand_rule_state *st, unsigned name)
 {
-    for (unsigned i = 0; i < f->count; i++)
-        st->states[i] = f->ranges[i].name == name ? COUNTING : WAITING;
-    st->count = 1;
+    memset(st->counts, 0, sizeof st->counts);
+    for (unsigned i = 0; i < f->count; i++) {
+        if (f->ranges[i].name == name) {
+            st->states[i] = COUNTING;
+            st->counts[i] = 1;
+        } else {
+            st->states[i] = WAITING;
+        }
+    }
 }
 
 /* The fragment may be followed. */
 static bool complete(const hand_fragment *f, const hand_rule_state *st)
 {
     for (unsigned i = 0; i < f->count; i++)
-        if (!closes(st->states[i], st->count, f->ranges[i].u, f->any))
+        if (!closes(st->states[i], st->counts[i], f->ranges[i].u, f->any))
             return false;
     return true;
 }
@@ -251,7 +274,7 @@ static bool complete(const hand_fragment *f, const hand_rule_state *st)
 static bool grows(const hand_fragment *f, const hand_rule_state *st)
 {
     for (unsigned i = 0; i < f->count; i++)
-        if (takes(st->states[i], st->count, f->ranges[i].v))
+        if (takes(st->states[i], st->counts[i], f->ranges[i].v))
             return true;
     return false;
 }

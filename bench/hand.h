@@ -1,7 +1,9 @@
-/* The guard of document 01 written by hand in C: what the benchmark holds the proved guard against. Same tables and same masks, and nothing made for one sheet alone. */
+/* The guard of document 01 written by hand in C: what the benchmark holds the proved guard against. A set of names for each fragment and a loop over its ranges at each event, as the
+ * papers' monitors have it; nothing made for one sheet alone. */
 #ifndef HAND_H
 #define HAND_H
 
+#include <stdbool.h>
 #include <stddef.h>
 #include <stdint.h>
 
@@ -14,7 +16,8 @@ typedef struct hand_range {
 
 typedef struct hand_fragment {
     uint64_t names; /* bit n: name n is in a range of this fragment */
-    uint8_t any;    /* joined any, else all */
+    bool any;       /* joined any, else all */
+    bool shuffled;  /* else each block is in a row */
     uint8_t count;  /* of ranges */
     hand_range ranges[HAND_RANGES];
 } hand_fragment;
@@ -33,11 +36,12 @@ typedef struct hand_book {
     uint16_t holders[HAND_NAMES]; /* bit r: rule r has this name */
 } hand_book;
 
-/* "The monitor's state holds, for each rule, its fragment number, eight recogniser states, one count and the end time of P." */
+/* "The monitor's state holds, for each rule, its fragment number, eight recogniser states, one count and the end time of P"; by document 02 "eight counts for a fragment
+ * where it kept one". */
 typedef struct hand_rule_state {
     uint8_t fragment;
     uint8_t states[HAND_RANGES];
-    uint16_t count;
+    uint16_t counts[HAND_RANGES]; /* 0 of a range that has not begun */
     uint32_t end;
 } hand_rule_state;
 

@@ -1,4 +1,4 @@
-//! The guard of document 01 by hand in Rust: the same tables and masks as bench/hand.c. Words in quotes are document 01's.
+//! The guard of document 01 by hand in Rust, with the shuffled fragments of document 02: the same tables and masks as bench/hand.c. Words in quotes are document 01's.
 
 use std::mem::MaybeUninit;
 
@@ -16,10 +16,18 @@ enum Kind {
     Timed,
 }
 
-#[derive(Clone, Copy, PartialEq, Eq)]
-enum Join {
-    All,
-    Any,
+#[derive(Clone, Copy)]
+struct Join {
+    any: bool,
+    shuffled: bool,
+}
+
+impl Join {
+    const ALL: Join = Join { any: false, shuffled: false };
+
+    fn from_number(n: u8) -> Join {
+        Join { any: n & 1 == 1, shuffled: n & 2 == 2 }
+    }
 }
 
 /// A set of names, one bit a name.
@@ -52,7 +60,7 @@ struct Fragment {
 }
 
 impl Fragment {
-    const EMPTY: Fragment = Fragment { names: Names(0), join: Join::All, count: 0, ranges: [Range { name: 0, u: 1, v: 1 }; RANGES] };
+    const EMPTY: Fragment = Fragment { names: Names(0), join: Join::ALL, count: 0, ranges: [Range { name: 0, u: 1, v: 1 }; RANGES] };
 
     fn push(&mut self, range: Range) {
         self.ranges[usize::from(self.count)] = range;
@@ -101,6 +109,7 @@ struct Reader<'a> {
     outputs: Names,
     /// The names of the rule so far.
     used: Names,
+    last_join: u64,
 }
 
 impl Reader<'_> {
@@ -146,9 +155,16 @@ impl Reader<'_> {
         Ok(name)
     }
 
+    /// The version says which joins there are: 0 and 1, and from version 2 on the shuffled ones.
+    fn version(&mut self) -> Result<(), Fault> {
+        let version = self.field(2, |x| if x == 1 || x == 2 { 0 } else { 3 })?;
+        self.last_join = if version == 1 { 1 } else { 3 };
+        Ok(())
+    }
+
     fn fragment(&mut self, of_q: bool) -> Result<Fragment, Fault> {
         let wrong_way = if of_q { Names(!self.outputs.0) } else { Names(0) };
-        let join = if self.between(0, 1)? == 0 { Join::All } else { Join::Any };
+        let join = Join::from_number(self.between(0, self.last_join)?);
         let mut fragment = Fragment { join, ..Fragment::EMPTY };
         for _ in 0..self.between(1, 8)? {
             let name = self.name(wrong_way)?;
@@ -189,7 +205,7 @@ impl Reader<'_> {
 
     fn book(&mut self) -> Result<Book, Fault> {
         self.exactly(3, 0x424F4C, 2)?;
-        self.exactly(2, 1, 3)?;
+        self.version()?;
         self.outputs = Names(self.field(8, |_| 0)?);
         let mut book = Book { count: self.between(1, 16)?, rules: [Rule::EMPTY; RULES], holders: [0; NAMES] };
         for r in 0..usize::from(book.count) {
@@ -206,7 +222,7 @@ impl Reader<'_> {
 }
 
 fn read(sheet: &[u8]) -> Result<Book, Fault> {
-    Reader { sheet, at: 0, outputs: Names(0), used: Names(0) }.book()
+    Reader { sheet, at: 0, outputs: Names(0), used: Names(0), last_join: 0 }.book()
 }
 
 // ---- the recogniser of a range
@@ -231,9 +247,10 @@ impl State {
         }
     }
 
-    fn after_sibling(self, count: u16, u: u16) -> State {
+    fn after_sibling(self, count: u16, u: u16, join: Join) -> State {
         match self {
             State::NotBegun | State::Waiting => State::Waiting,
+            State::Counting if join.shuffled => State::Counting,
             State::Counting if count >= u => State::Done,
             State::Done => State::Done,
             _ => State::Error,
@@ -243,7 +260,7 @@ impl State {
     /// Whether the range goes idle at *next*, and not to error.
     fn closes(self, count: u16, u: u16, join: Join) -> bool {
         match self {
-            State::Waiting => join == Join::Any,
+            State::Waiting => join.any,
             State::Counting => count >= u,
             State::Done => true,
             _ => false,
@@ -253,12 +270,14 @@ impl State {
 
 // ---- one rule
 
-/// "The monitor's state holds, for each rule, its fragment number, eight recogniser states, one count and the end time of P."
+/// "The monitor's state holds, for each rule, its fragment number, eight recogniser states, one count and the end time of P"; by document 02 "eight counts for a
+/// fragment where it kept one".
 #[derive(Clone, Copy)]
 struct RuleState {
     fragment: u8,
     states: [State; RANGES],
-    count: u16,
+    /// 0 of a range that has not begun.
+    counts: [u16; RANGES],
     end: u32,
 }
 
@@ -275,19 +294,22 @@ impl RuleState {
     fn fresh(rule: &Rule) -> RuleState {
         let mut states = [State::Idle; RANGES];
         states[..rule.fragments[0].ranges().len()].fill(State::NotBegun);
-        RuleState { fragment: 0, states, count: 0, end: 0 }
+        RuleState { fragment: 0, states, counts: [0; RANGES], end: 0 }
+    }
+
+    /// The fragment's ranges, each with its state and its count.
+    fn slots<'a>(&'a self, fragment: &'a Fragment) -> impl Iterator<Item = (&'a Range, State, u16)> {
+        fragment.ranges().iter().zip(&self.states).zip(&self.counts).map(|((range, &state), &count)| (range, state, count))
     }
 
     /// An event on a name of the fragment; false at a range's error.
     fn moves(&mut self, fragment: &Fragment, name: u8) -> bool {
-        let count = self.count;
-        for (range, state) in fragment.ranges().iter().zip(&mut self.states) {
-            let was = *state;
+        for ((range, state), count) in fragment.ranges().iter().zip(&mut self.states).zip(&mut self.counts) {
             if range.name == name {
-                self.count = if was == State::Counting { count.wrapping_add(1) } else { 1 };
-                *state = was.after_own(count, range.v);
+                *state = state.after_own(*count, range.v);
+                *count = count.wrapping_add(1);
             } else {
-                *state = was.after_sibling(count, range.u);
+                *state = state.after_sibling(*count, range.u, fragment.join);
             }
             if *state == State::Error {
                 return false;
@@ -298,20 +320,21 @@ impl RuleState {
 
     /// The first event of a fragment.
     fn begin(&mut self, fragment: &Fragment, name: u8) {
-        for (range, state) in fragment.ranges().iter().zip(&mut self.states) {
-            *state = if range.name == name { State::Counting } else { State::Waiting };
+        for ((range, state), count) in fragment.ranges().iter().zip(&mut self.states).zip(&mut self.counts) {
+            let own = range.name == name;
+            *state = if own { State::Counting } else { State::Waiting };
+            *count = u16::from(own);
         }
-        self.count = 1;
     }
 
     /// The fragment may be followed.
     fn complete(&self, fragment: &Fragment) -> bool {
-        fragment.ranges().iter().zip(self.states).all(|(range, state)| state.closes(self.count, range.u, fragment.join))
+        self.slots(fragment).all(|(range, state, count)| state.closes(count, range.u, fragment.join))
     }
 
     /// The fragment can take one more event.
     fn grows(&self, fragment: &Fragment) -> bool {
-        fragment.ranges().iter().zip(self.states).any(|(range, state)| state.after_own(self.count, range.v) == State::Counting)
+        self.slots(fragment).any(|(range, state, count)| state.after_own(count, range.v) == State::Counting)
     }
 
     fn late(&self, rule: &Rule, time: u32) -> bool {
@@ -583,4 +606,4 @@ pub extern "C" fn hand_rs_taken(m: &Monitor) -> u32 {
 }
 
 // What the host lends (bench/contestants.h) is large enough.
-const _: () = assert!(size_of::<Book>() <= 20480 && size_of::<Monitor>() <= 272);
+const _: () = assert!(size_of::<Book>() <= 20480 && size_of::<Monitor>() <= 528);

@@ -12,10 +12,13 @@ import re
 from collections import namedtuple
 
 CONDITION = '(?:n?[eosp]|[abgl]e?)'
+# of several numbers at once, as eight counts: one instruction is one operation; what only puts numbers in other places is counted too
+VECTOR = ('p(?:add|sub|mull|cmpeq|cmpgt|sll|srl|sra|unpck[lh])[bwdq]{1,3}|pandn?|por|pxor|(?:andn?|x?or)p[sd]|pack[su]s(?:wb|dw)|pshuf(?:[bd]|[lh]w)|shufp[sd]|unpck[lh]p[sd]|'
+          'pinsr[bwdq]|pextr[bwdq]|pmovmskb|pmov[sz]x[bwdq]{2}|pblendw|pblendvb')
 # an instruction that is in neither list is an error, so that nothing is counted wrongly unseen
 COMPUTES = re.compile('add|sub|adc|sbb|inc|dec|neg|i?mul|i?div|and|or|xor|not|sh[lr]d?|sa[lr]|ro[lr]|lea|cmp|test|bt[scr]?|bs[fr]|[lt]zcnt|popcnt|bswap|'
-                      'set%s|cmov%s' % (CONDITION, CONDITION))
-MOVES = re.compile('mov|movabs|movzx|movsxd?|mov[au]p[sd]|movdq[au]|mov[dq]|cdqe?|cwde|cqo|push|pop|call|ret|jmp|j%s|nop|endbr64' % CONDITION)
+                      'set%s|cmov%s|%s' % (CONDITION, CONDITION, VECTOR))
+MOVES = re.compile('mov|movabs|movzx|movsxd?|mov[au]p[sd]|movdq[au]|mov[dq]|movs[sd]|mov[lh]p[sd]|cdqe?|cwde|cqo|push|pop|call|ret|jmp|j%s|nop|endbr64' % CONDITION)
 ONLY_READS = re.compile('cmp|test|bt|i?mul|i?div|push|call|jmp|nop') # of these a first operand in memory is not written
 
 Dump = namedtuple('Dump', 'total own')
@@ -38,6 +41,8 @@ def operations_of(text):
     """0, 1 or 2, for one instruction."""
     words = re.sub(r'^(?:(?:cs|data16|bnd|notrack) )*', '', text).split(None, 1)
     mnemonic, operands = words[0], ''.join(words[1:])
+    if (mnemonic, operands) == ('xchg', 'ax,ax'): # objdump's name of a nop of two bytes
+        return 0
     computes = bool(COMPUTES.fullmatch(mnemonic))
     if not computes and not MOVES.fullmatch(mnemonic):
         raise SystemExit('operations.py: is this an operation? %s' % text)

@@ -1,6 +1,6 @@
 """Puts what `bench` measured into Markdown tables: python3 table.py FOLDER
 
-FOLDER has the files facts (what `bench facts` printed) and callers (what nm printed of bench.o) and, for the levels 2 and 3 that hand.c was compiled at,
+FOLDER has the files facts (what `bench facts` printed) and callers (what nm printed of bench.o) and, for the levels 2 and 3 that hand.c and cells.c were compiled at,
 timeN (what some runs of `bench time` printed), codeN (what objdump printed of the program) and the callgrind dumps of `bench count`, countsN.*.
 """
 
@@ -14,11 +14,11 @@ from collections import defaultdict, namedtuple
 sys.dont_write_bytecode = True
 from operations import operations, read_callers, read_code
 
-GUARDS = {'guard': 'guard', 'hand': 'C', 'hand_rs': 'Rust'}
+GUARDS = {'guard': 'guard', 'hand': 'C', 'hand_rs': 'Rust'} # and beside them 'cells', the C with the proved guard's own design
 LEVELS = (2, 3)
-# a session's bits: one rule's state (fragment 8, the name whose range counts 8, states 8 x 8, count 16, end of P 32), and what all rules share (taken 32, latest 32,
-# verdict 8, masks 16 + 16)
-RULE_BITS, SHARED_BITS = 128, 104
+# a session's bits: one rule's state (fragment 8, the range whose event came last 8, states 8 x 8, counts 8 x 16, the masks of lacking and of full ranges 8 + 8, end of
+# P 32), and what all rules share (taken 32, latest 32, verdict 8, masks 16 + 16)
+RULE_BITS, SHARED_BITS = 256, 104
 
 Facts = namedtuple('Facts', 'number part title figure_ops figure_bits table_ops table_bits rules tables_bits')
 
@@ -77,7 +77,7 @@ def means(counts):
             (short, low), (long, high) = sorted(of.items())
             out[key] = (high - low) / (long - short)
     for way, guard, number in out:
-        if way == 'live' and guard in GUARDS:
+        if way == 'live' and guard != 'none':
             out[way, guard, number] -= out[way, 'none', number]
     return out
 
@@ -96,10 +96,15 @@ def most_operations(ops, guard, number):
     return whole, whole - foreign
 
 
-def typical(times):
-    """One number for all times of the guard in C: the mean of their logarithms, back in nanoseconds."""
-    logs = [math.log(ns) for (_, guard, _), ns in times.items() if guard == 'hand']
+def typical(times, guard):
+    """One number for all times of a guard: the mean of their logarithms, back in nanoseconds."""
+    logs = [math.log(ns) for (_, g, _), ns in times.items() if g == guard]
     return math.exp(sum(logs) / len(logs))
+
+
+def each_at_its_level(levels, level, cells_level):
+    """The values of one level, and of the C with cells those of its own: {level: {(what, guard, configuration): value}}."""
+    return {**levels[level], **{key: value for key, value in levels[cells_level].items() if key[1] == 'cells'}}
 
 
 # ---------------------------------------------------------------------------------------------
@@ -114,15 +119,21 @@ def table(head, rows):
     print()
 
 
-def cells(values, way, number):
+def figures(values, way, number):
     guard, c, rust = (values[way, g, number] for g in GUARDS)
     return ['%.1f' % x for x in (guard, c, rust)] + ['%.2f' % (guard / c), '%.2f' % (guard / rust)]
+
+
+def figures_of_cells(times, mean, way, number):
+    instructions = mean[way, 'cells', number]
+    return ['%.1f' % times[way, 'cells', number], '%.1f' % instructions, '%.2f' % (mean[way, 'guard', number] / instructions)]
 
 
 def print_way(way, title, facts, times, mean):
     print('### %s\n' % title)
     head = ['%s %s' % (h, unit) for unit in ('ns', 'instr.') for h in (*GUARDS.values(), 'guard/C', 'guard/Rust')]
-    table(['configuration'] + head, [[f.title] + cells(times, way, f.number) + cells(mean, way, f.number) for f in facts])
+    rows = [[f.title] + figures(times, way, f.number) + figures(mean, way, f.number) + figures_of_cells(times, mean, way, f.number) for f in facts]
+    table(['configuration'] + head + ['cells ns', 'cells instr.', 'guard/cells instr.'], rows)
 
 
 def paper_row(f, counts, ops):
@@ -152,18 +163,23 @@ def print_opening(facts, counts):
     rows = []
     for f in facts:
         guard, c, rust = (opening(counts, g, f.number) for g in GUARDS)
-        row = ['%d' % n for n in (guard, c, rust)] + ['%.2f' % (guard / c), '%.2f' % (guard / rust)]
+        row = ['%d' % n for n in (guard, c, rust)] + ['%.2f' % (guard / c), '%.2f' % (guard / rust), '%d' % opening(counts, 'cells', f.number)]
         if f.part != 'clock' and row not in [r[1:] for r in rows]:
             rows.append([f.title] + row)
-    table(['configuration'] + [g + ' instr.' for g in GUARDS.values()] + ['guard/C', 'guard/Rust'], rows)
+    table(['configuration'] + [g + ' instr.' for g in GUARDS.values()] + ['guard/C', 'guard/Rust', 'cells instr.'], rows)
+
+
+def largest(facts, values, guard):
+    """The largest quotient of the proved guard by another, and where it is."""
+    ratio, way, f = max(((values[way, 'guard', f.number] / values[way, guard, f.number], way, f) for way in ('run', 'live') for f in facts), key=lambda x: x[0])
+    return '%.2f (%s, %s)' % (ratio, way, f.title)
 
 
 def print_reach(facts, times, mean, ops):
-    """The two goals: guard/C at most 1.2, and no record above a paper's operations."""
-    for unit, values in (('nanoseconds', times), ('instructions', mean)):
-        ratio, way, f = max(((values[way, 'guard', f.number] / values[way, 'hand', f.number], way, f) for way in ('run', 'live') for f in facts),
-                            key=lambda x: x[0])
-        print('- Largest guard/C in %s: %.2f (%s, %s).' % (unit, ratio, way, f.title))
+    """The two goals: guard/C at most 1.2, and no record above a paper's operations. Beside them the C with cells, of which no goal is set."""
+    print('- Largest guard/C in nanoseconds: %s.' % largest(facts, times, 'hand'))
+    print('- Largest guard/C in instructions: %s.' % largest(facts, mean, 'hand'))
+    print('- Largest guard/cells: in instructions %s, in nanoseconds %s.' % (largest(facts, mean, 'cells'), largest(facts, times, 'cells')))
     for which, what in ((1, 'the rule itself'), (0, 'the whole call')):
         above = [f.title for f in facts if f.part == 'paper'
                  and most_operations(ops, 'guard', f.number)[which] > min(n for n in (f.figure_ops, f.table_ops) if n)]
@@ -173,20 +189,22 @@ def print_reach(facts, times, mean, ops):
 def main(folder):
     facts = read_facts(folder)
     times = {level: read_times(os.path.join(folder, 'time%d' % level)) for level in LEVELS}
-    level = min(LEVELS, key=lambda n: typical(times[n]))
-    dumps = read_dumps(os.path.join(folder, 'counts%d.*' % level))
-    counts = read_counts(dumps)
-    ops = read_operations(dumps, read_code(os.path.join(folder, 'code%d' % level)), read_callers(os.path.join(folder, 'callers')))
+    level, cells_level = (min(LEVELS, key=lambda n: typical(times[n], guard)) for guard in ('hand', 'cells'))
+    dumps = {n: read_dumps(os.path.join(folder, 'counts%d.*' % n)) for n in LEVELS}
+    counts = each_at_its_level({n: read_counts(dumps[n]) for n in LEVELS}, level, cells_level)
+    ops = read_operations(dumps[level], read_code(os.path.join(folder, 'code%d' % level)), read_callers(os.path.join(folder, 'callers')))
     mean = means(counts)
-    print_way('run', 'Log run, per record', facts, times[level], mean)
-    print_way('live', 'Live session, per record', facts, times[level], mean)
+    fastest = each_at_its_level(times, level, cells_level)
+    print_way('run', 'Log run, per record', facts, fastest, mean)
+    print_way('live', 'Live session, per record', facts, fastest, mean)
     print_papers(facts, counts, ops)
     print_opening(facts, counts)
-    print_reach(facts, times[level], mean, ops)
+    print_reach(facts, fastest, mean, ops)
     print('- The host\'s loop with a call that does nothing: %.1f ns and %.1f instructions per record.'
-          % (times[level]['live', 'none', 0], mean['live', 'none', 0]))
-    print('- hand.c is compiled at -O%d, the faster: its mean time is %s.'
-          % (level, ', '.join('%.2f ns at -O%d' % (typical(times[n]), n) for n in LEVELS)))
+          % (fastest['live', 'none', 0], mean['live', 'none', 0]))
+    for guard, at in (('hand', level), ('cells', cells_level)):
+        print('- %s.c is compiled at -O%d, the faster: its mean time is %s.'
+              % (guard, at, ', '.join('%.2f ns at -O%d' % (typical(times[n], guard), n) for n in LEVELS)))
 
 
 if __name__ == '__main__':

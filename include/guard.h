@@ -14,28 +14,28 @@ extern "C" {
 /* ---- versions */
 
 /* This header's library. It rises with each call that is added or changed, and with the memory that a host lends. */
-#define GUARD_LIBRARY_VERSION 3
+#define GUARD_LIBRARY_VERSION 4
 
 /* The newest version of a sheet that this library reads; each older one is read too. */
-#define GUARD_SHEET_VERSION 1
+#define GUARD_SHEET_VERSION 2
 
 /* The same two numbers of the library that is linked. */
 uint32_t guard_library_version(void);
 uint32_t guard_sheet_version(void);
 
-/* What a host lends, in words of eight bytes. */
+/* What a host lends: a book in words of eight bytes, a monitor in bytes. */
 #define GUARD_BOOK_WORDS 1106
-#define GUARD_MONITOR_WORDS 34
+#define GUARD_MONITOR_BYTES 528
 
-/* The calls as the library has them: a book and a monitor are so many words, and an answer's four fields are one number, lowest first. The number in their names is that of this
- * layout, so that a header and a library of different layouts do not link. Use the functions below, whose names stay. */
-uint32_t guard3_run(const uint8_t *sheet, size_t sheet_length, const uint8_t *log, size_t log_length, uint32_t budget, uint8_t *out, size_t out_length);
-uint64_t guard3_open(const uint8_t *sheet, size_t sheet_length, uint64_t *book, uint64_t *monitor);
-void guard3_start(uint64_t *monitor);
-uint64_t guard3_event(const uint64_t *book, uint64_t *monitor, uint32_t name, uint32_t time);
-uint64_t guard3_clock(const uint64_t *book, uint64_t *monitor, uint32_t time);
-uint64_t guard3_verdict(const uint64_t *monitor);
-uint32_t guard3_taken(const uint64_t *monitor);
+/* The calls as the library has them: a book is so many words, a monitor so many bytes, and an answer's four fields are one number, lowest first. The number in their names is that
+ * of this layout, so that a header and a library of different layouts do not link. Use the functions below, whose names stay. */
+uint32_t guard4_run(const uint8_t *sheet, size_t sheet_length, const uint8_t *log, size_t log_length, uint32_t budget, uint8_t *out, size_t out_length);
+uint64_t guard4_open(const uint8_t *sheet, size_t sheet_length, uint64_t *book, uint8_t *monitor);
+void guard4_start(uint8_t *monitor);
+uint64_t guard4_event(const uint64_t *book, uint8_t *monitor, uint32_t name, uint32_t time);
+uint64_t guard4_clock(const uint64_t *book, uint8_t *monitor, uint32_t time);
+uint64_t guard4_verdict(const uint8_t *monitor);
+uint32_t guard4_taken(const uint8_t *monitor);
 
 /* ---- answers */
 
@@ -51,8 +51,8 @@ enum {
 enum {
     GUARD_TRUNCATED = 1,      /* a field doesn't fit in the bytes left */
     GUARD_MARK = 2,           /* the mark is not "LOB" */
-    GUARD_VERSION = 3,        /* the version is not 1 */
-    GUARD_VALUE = 4,          /* a count, kind or join outside its values */
+    GUARD_VERSION = 3,        /* the version is neither 1 nor 2 */
+    GUARD_VALUE = 4,          /* a count, kind or join outside its values (a join is 0 or 1 in version 1, 0 to 3 in version 2) */
     GUARD_NOT_ZERO = 5,       /* a Q count, trigger or t that is not 0 where 0 is due */
     GUARD_NAME = 6,           /* a trigger or a range's name above 63 */
     GUARD_BOUNDS = 7,         /* u is 0, or v < u */
@@ -72,8 +72,8 @@ static inline const char *guard_refusal_text(uint32_t number)
     static const char *const texts[] = {
         "the sheet is cut off: a field doesn't fit in the bytes left",
         "the sheet's mark is not \"LOB\"",
-        "the sheet's version is not 1",
-        "a count, kind or join is outside its values",
+        "the sheet's version is neither 1 nor 2",
+        "a count, kind or join is outside its values (a join is 0 or 1 in version 1, 0 to 3 in version 2)",
         "a Q count, trigger or t is not 0 where 0 is due",
         "a trigger or a range's name is above 63",
         "a range's u is 0, or its v is below u",
@@ -100,12 +100,12 @@ static inline const char *guard_refusal_text(uint32_t number)
  * place (u32): k for broken, the field's or the record's offset for refused, else 0. Bytes of out from 12 on stay as they were. */
 static inline uint32_t guard_run(const uint8_t *sheet, size_t sheet_length, const uint8_t *log, size_t log_length, uint32_t budget, uint8_t *out, size_t out_length)
 {
-    return guard3_run(sheet, sheet_length, log, log_length, budget, out, out_length);
+    return guard4_run(sheet, sheet_length, log, log_length, budget, out, out_length);
 }
 
 /* ---- a live session
  * The host lends the memory of one book (a guard_book, which guard_open writes and nothing else changes) and of one monitor for each session under it (a guard_monitor).
- * The words are the guard's own: a host stores and copies them, and does not read them. Every bit pattern is safe: for a book or a monitor that these calls did not make,
+ * What they hold is the guard's own: a host stores and copies it, and does not read it. Every bit pattern is safe: for a book or a monitor that these calls did not make,
  * or a monitor that has observed under another book, the verdict is free, the call returns, and it writes nothing but the monitor. Sheet, book and monitor do not overlap.
  * Threads may share an opened book; a monitor belongs to one thread at a time. */
 
@@ -114,7 +114,7 @@ typedef struct guard_book {
 } guard_book;
 
 typedef struct guard_monitor {
-    uint64_t words[GUARD_MONITOR_WORDS];
+    uint8_t bytes[GUARD_MONITOR_BYTES];
 } guard_monitor;
 
 /* answer and refusal as above; mask: bit r is rule r of the sheet, in file order from 0, for open and broken, else 0; place: k for broken, the field's offset for a refused
@@ -139,38 +139,38 @@ static inline guard_answer guard_answer_of(uint64_t word)
 /* Reads a sheet into *book and makes *monitor a fresh monitor. The answer is whole, or the sheet's refusal with the faulty field's offset: then neither is changed. */
 static inline guard_answer guard_open(guard_book *book, guard_monitor *monitor, const uint8_t *sheet, size_t sheet_length)
 {
-    return guard_answer_of(guard3_open(sheet, sheet_length, book->words, monitor->words));
+    return guard_answer_of(guard4_open(sheet, sheet_length, book->words, monitor->bytes));
 }
 
 /* Makes *monitor a fresh monitor, whatever it was: a second session under a book, or the same one from the start. It is the same for every book. */
 static inline void guard_start(guard_monitor *monitor)
 {
-    guard3_start(monitor->words);
+    guard4_start(monitor->bytes);
 }
 
 /* One call between host and plugin, at a time in milliseconds. A name of 64 or more is refused (12), a log's FF too, and so is a time before the latest one (11). After a
  * break every observation gets the same answer. */
 static inline guard_answer guard_event(const guard_book *book, guard_monitor *monitor, uint32_t name, uint32_t time)
 {
-    return guard_answer_of(guard3_event(book->words, monitor->words, name, time));
+    return guard_answer_of(guard4_event(book->words, monitor->bytes, name, time));
 }
 
 /* A time alone: what a host's timer calls, so that a deadline is noticed while no call is made. */
 static inline guard_answer guard_clock(const guard_book *book, guard_monitor *monitor, uint32_t time)
 {
-    return guard_answer_of(guard3_clock(book->words, monitor->words, time));
+    return guard_answer_of(guard4_clock(book->words, monitor->bytes, time));
 }
 
 /* The verdict that the monitor holds: whole, open or broken. */
 static inline guard_answer guard_verdict(const guard_monitor *monitor)
 {
-    return guard_answer_of(guard3_verdict(monitor->words));
+    return guard_answer_of(guard4_verdict(monitor->bytes));
 }
 
 /* How many observations the monitor has taken: all but the refused ones and those after a break. */
 static inline uint32_t guard_taken(const guard_monitor *monitor)
 {
-    return guard3_taken(monitor->words);
+    return guard4_taken(monitor->bytes);
 }
 
 #ifdef __cplusplus

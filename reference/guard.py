@@ -1,4 +1,4 @@
-"""The guard of document 01, written a second time from its definitions.
+"""The guard of document 01, with change 1 of document 02, written a second time from its definitions.
 
 Nothing here knows of recogniser states, of a move table or of a translated book. A sheet is read
 field by field; a rule is judged by cutting the list of its own events into rounds, fragments and
@@ -15,11 +15,14 @@ from collections import namedtuple
 WHOLE, OPEN, BROKEN, REFUSED = 0, 1, 2, 3
 CLOCK = 0xFF
 MOST = 4294967295
+ALL, ANY, ALL_SHUFFLED, ANY_SHUFFLED = JOINS = range(4)
+LAST_JOIN = {1: ANY, 2: ANY_SHUFFLED}                     # the versions of a sheet, and the last join of each
+SOME_WILL_DO, IN_ANY_MIX = (ANY, ANY_SHUFFLED), (ALL_SHUFFLED, ANY_SHUFFLED)
 
 Range = namedtuple('Range', 'name u v')
-Fragment = namedtuple('Fragment', 'join ranges')          # join: 0 all, 1 any
+Fragment = namedtuple('Fragment', 'join ranges')
 Rule = namedtuple('Rule', 'kind p q trigger t')           # p, q: tuples of fragments
-Sheet = namedtuple('Sheet', 'outputs rules')
+Sheet = namedtuple('Sheet', 'outputs rules version', defaults=(1,))
 Event = namedtuple('Event', 'name time')                  # a clock reading has the name CLOCK
 Result = namedtuple('Result', 'answer refusal mask taken place')
 
@@ -85,8 +88,8 @@ def read_range(f, outputs, used, in_q):
     return Range(name, u, v)
 
 
-def read_fragment(f, outputs, used, in_q):
-    join = f.within(0, 1)
+def read_fragment(f, version, outputs, used, in_q):
+    join = f.within(ALL, LAST_JOIN[version])
     count = f.within(1, 8)
     return Fragment(join, tuple(read_range(f, outputs, used, in_q) for _ in range(count)))
 
@@ -98,7 +101,7 @@ def read_trigger(f, outputs):
     return name
 
 
-def read_rule(f, outputs):
+def read_rule(f, version, outputs):
     kind = f.within(0, 2)
     timed = kind == 2
     p_count = f.within(1, 8)
@@ -106,8 +109,8 @@ def read_rule(f, outputs):
     trigger = f.zero(1) if timed else read_trigger(f, outputs)
     t = f.number(4) if timed else f.zero(4)
     used = set() if timed else {trigger}
-    p = tuple(read_fragment(f, outputs, used, False) for _ in range(p_count))
-    q = tuple(read_fragment(f, outputs, used, True) for _ in range(q_count))
+    p = tuple(read_fragment(f, version, outputs, used, False) for _ in range(p_count))
+    q = tuple(read_fragment(f, version, outputs, used, True) for _ in range(q_count))
     return Rule(kind, p, q, trigger, t)
 
 
@@ -115,13 +118,14 @@ def read_sheet(data):
     """The sheet of these bytes; raises Refused with 1 to 10 and the place of the first faulty field."""
     f = Fields(data)
     f.refuse(2, f.take(3) != b'LOB')
-    f.refuse(3, f.number(2) != 1)
+    version = f.number(2)
+    f.refuse(3, version not in LAST_JOIN)
     outputs = f.number(8)
     count = f.within(1, 16)
-    rules = tuple(read_rule(f, outputs) for _ in range(count))
+    rules = tuple(read_rule(f, version, outputs) for _ in range(count))
     if f.next < len(data):
         raise Refused(10, f.next)
-    return Sheet(outputs, rules)
+    return Sheet(outputs, rules, version)
 
 
 # ---------------------------------------------------------------------------------------------
@@ -141,7 +145,9 @@ def read_sheet(data):
 #           number of them. So what can be cut out of a continuation from one place in it on can be
 #           cut out of another from any of its places on: all places after at least one event of
 #           the continuation are alike, and are the one place BEYOND. From there everything can be
-#           had: any block, fragment, ordering or trigger goes from BEYOND to BEYOND.
+#           had: any block, fragment, ordering or trigger goes from BEYOND to BEYOND. A shuffled
+#           fragment that has come to n with no total above v goes on to BEYOND if some range can
+#           take one more: that one and whatever lacks are had there.
 #   length  A round that has reached BEYOND is completed there, and nothing need follow it.
 #
 # So a cut has n + 2 places to go through, whatever the bounds are. A trace is a match if a cut into
@@ -182,23 +188,46 @@ class Cut:
             ends.append(self.beyond)
         return ends
 
+    def blocks_ends(self, fragment, start):
+        """Where a fragment of blocks in a row can end: blocks of all its ranges, or of some, in any order."""
+        every = frozenset(fragment.ranges)
+        ends, seen, todo = set(), set(), [(frozenset(), start)]
+        while todo:
+            state = todo.pop()
+            if state in seen:
+                continue
+            seen.add(state)
+            used, place = state
+            if used == every or fragment.join in SOME_WILL_DO and used:
+                ends.add(place)
+            for r in every - used:
+                todo.extend((used | {r}, end) for end in self.block_ends(r, place))
+        return ends
+
+    def shuffled_ends(self, fragment, start):
+        """Where a shuffled fragment can end: the total of each name, or of each name used, lies between u and v."""
+        if start == self.beyond:
+            return {self.beyond}
+        ends = set()
+        for place in range(start, self.n + 1):
+            events = self.names[start:place]
+            totals = [(r, events.count(r.name)) for r in fragment.ranges]
+            if sum(total for _, total in totals) < len(events) or any(total > r.v for r, total in totals):
+                return ends             # an event that is not the fragment's, or one too many
+            used = [(r, total) for r, total in totals if total > 0]
+            needed = used if fragment.join in SOME_WILL_DO else totals
+            if used and all(total >= r.u for r, total in needed):
+                ends.add(place)
+        if any(total < r.v for r, total in totals):
+            ends.add(self.beyond)
+        return ends
+
     def fragment_ends(self, fragment, start):
-        """Where a fragment can end: blocks of all its ranges, or of some, in any order."""
+        """Where a fragment can end."""
         key = (fragment, start)
         if key not in self.found:
-            every = frozenset(fragment.ranges)
-            ends, seen, todo = set(), set(), [(frozenset(), start)]
-            while todo:
-                state = todo.pop()
-                if state in seen:
-                    continue
-                seen.add(state)
-                used, place = state
-                if used == every or fragment.join == 1 and used:
-                    ends.add(place)
-                for r in every - used:
-                    todo.extend((used | {r}, end) for end in self.block_ends(r, place))
-            self.found[key] = ends
+            ends = self.shuffled_ends if fragment.join in IN_ANY_MIX else self.blocks_ends
+            self.found[key] = ends(fragment, start)
         return self.found[key]
 
     def ordering_ends(self, ordering, start):

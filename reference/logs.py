@@ -3,9 +3,10 @@
 A log is a list of (time, name), a clock reading having the name CLOCK, until `log_bytes` writes it.
 """
 
+import itertools
 import struct
 
-from guard import CLOCK, MOST, names_of
+from guard import CLOCK, IN_ANY_MIX, MOST, SOME_WILL_DO, names_of
 
 
 def log_bytes(observations):
@@ -23,7 +24,7 @@ def few(count):
 
 def fragment_blocks(dice, number, fragment):
     ranges = dice.shuffled(fragment.ranges)
-    if fragment.join == 1:
+    if fragment.join in SOME_WILL_DO:
         ranges = ranges[:dice.between(1, len(ranges))]
     blocks = []
     for r in ranges:
@@ -65,6 +66,24 @@ def changed_round(dice, rule, blocks, change):
 ROUND_CHANGES = ['too many', 'too few', 'reopened', 'left out', 'swapped', 'repeated', 'another']
 
 
+def by_turns(lists):
+    """The first of each list, then the second of each, and so on."""
+    most = max(map(len, lists))
+    return [items[i] for i in range(most) for items in lists if i < len(items)]
+
+
+def event_names(dice, rule, blocks):
+    """The names of the blocks' events. Neighbouring blocks of one shuffled fragment are mixed, by turns or in any way; now and then they stay in a row."""
+    fragments, out = rule.p + rule.q, []
+    for number, group in itertools.groupby(blocks, key=lambda block: block[0]):
+        lists = [[r.name] * count for _, r, count in group]
+        names = [name for names in lists for name in names]
+        if fragments[number].join in IN_ANY_MIX and dice.chance(0.9):
+            names = by_turns(lists) if dice.chance(0.3) else dice.shuffled(names)
+        out += names
+    return out
+
+
 def clamped(time):
     return max(0, min(time, MOST))
 
@@ -74,8 +93,8 @@ def timed_round(dice, rule, blocks, start, lateness):
     `lateness` after the deadline (before it if that is negative, and never before the end of P)."""
     time, out = start, []
     step = dice.pick([[0], [0, 1], [0, 1, 2], [1, 5]])
-    p_names = [r.name for number, r, count in blocks if number < len(rule.p) for _ in range(count)]
-    q_names = [r.name for number, r, count in blocks if number >= len(rule.p) for _ in range(count)]
+    p_names = event_names(dice, rule, [b for b in blocks if b[0] < len(rule.p)])
+    q_names = event_names(dice, rule, [b for b in blocks if b[0] >= len(rule.p)])
     for name in p_names:
         time += dice.pick(step)
         out.append((time, name))
@@ -136,14 +155,14 @@ def with_one_more(dice, observations, name):
 
 
 def full_p(dice, rule):
-    """Blocks of a P whose last block is at v. Nothing can be added to it, unless its last fragment is joined
-    any and a range of it is left out, which is so now and then."""
+    """Blocks of a P whose last block is at v, or all blocks of its last fragment where that is shuffled. Nothing can be added to it, unless a
+    range of the last fragment is left out, or in a shuffled one is at u, which is so now and then."""
     last = len(rule.p) - 1
-    ranges = dice.shuffled(rule.p[last].ranges)
-    if rule.p[last].join == 1 and len(ranges) > 1 and dice.chance(0.4):
+    ranges, shuffled = dice.shuffled(rule.p[last].ranges), rule.p[last].join in IN_ANY_MIX
+    if rule.p[last].join in SOME_WILL_DO and len(ranges) > 1 and dice.chance(0.4):
         ranges.pop()
-    blocks = [b for b in round_blocks(dice, rule) if b[0] < last] + [[last, r, few(r.u)] for r in ranges]
-    blocks[-1][2] = few(ranges[-1].v)
+    blocks = [b for b in round_blocks(dice, rule) if b[0] < last] + [[last, r, few(r.v if shuffled else r.u)] for r in ranges]
+    blocks[-1][2] = few(ranges[-1].u if shuffled and dice.chance(0.3) else ranges[-1].v)
     return blocks
 
 
@@ -154,12 +173,12 @@ def up_to_deadline(dice, rule, name):
     time = out[-1][0] if out else time
     whole = round_blocks(dice, rule)
     p = full_p(dice, rule) if dice.chance(0.6) else [b for b in whole if b[0] < len(rule.p)]
-    names = [r.name for _, r, count in p for _ in range(count)]
+    names = event_names(dice, rule, p)
     times = sorted(time + dice.below(4) for _ in names)
     out += list(zip(times, names))
     end = out[-1][0]
     deadline = end + min(rule.t, 1000)
-    q = [r.name for number, r, count in whole if number >= len(rule.p) for _ in range(count)]
+    q = event_names(dice, rule, [b for b in whole if b[0] >= len(rule.p)])
     if dice.chance(0.5):
         q = q[:dice.below(len(q) + 1)]
         out += zip(sorted(dice.between(end, deadline) for _ in q), q)

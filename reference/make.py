@@ -19,35 +19,48 @@ import sys
 from collections import Counter, namedtuple
 
 import guard
-from guard import BROKEN, CLOCK, MOST, REFUSED, Fragment, Range, Rule, Sheet
+from guard import (ALL, ALL_SHUFFLED, ANY, ANY_SHUFFLED, BROKEN, CLOCK, IN_ANY_MIX, MOST, OPEN, REFUSED, Fragment, Range, Refused,
+                   Rule, Sheet)
 from logs import deadline_log, log_bytes, some_log, with_refusal
-from sheets import (FAULTS, Dice, faulty, largest_sheet, prolonged, some_sheet, truncated, twice_faulty,
+from sheets import (FAULTS, VERSION_FAULTS, Dice, faulty, largest_sheet, prolonged, some_sheet, truncated, twice_faulty,
                     written)
 
 SEED = 20161114
-Case = namedtuple('Case', 'family sheet log budget')
+Case = namedtuple('Case', 'family sheet log budget field', defaults=('',))     # field: the one that a faulty sheet is refused for
 
 ANSWERS = ['whole', 'open', 'broken', 'refused']
 CAUSES = ['', 'an own event', 'a foreign event', 'the clock']
 REFUSALS = list(range(1, 13)) + [14]
+SHOWN = ['traces of document 01', 'traces of change 1']
 AT_LEAST = 100
 
 
 # ---------------------------------------------------------------------------------------------
-# The traces of document 01, with the five numbers that its words give
+# The traces of document 01 and of change 1, with the five numbers that their words give
 # ---------------------------------------------------------------------------------------------
 
 def single(name, u, v):
-    return Fragment(0, (Range(name, u, v),))
+    return Fragment(ALL, (Range(name, u, v),))
 
 
-def pair(join):
-    return Fragment(join, (Range(0, 1, 1), Range(1, 1, 1)))
+def pair(join, first=(1, 1), second=(1, 1)):
+    return Fragment(join, (Range(0, *first), Range(1, *second)))
 
 
 T = Sheet(2, (Rule(2, (single(0, 2, 3),), (single(1, 1, 2),), 0, 10),))
-R = Sheet(0, (Rule(1, (pair(0),), (), 2, 0),))
-N = Sheet(0, (Rule(0, (pair(1),), (), 2, 0),))
+R = Sheet(0, (Rule(1, (pair(ALL),), (), 2, 0),))
+N = Sheet(0, (Rule(0, (pair(ANY),), (), 2, 0),))
+
+
+def answered(*p):
+    """P, then 9[1,2] within 10, in a sheet of version 2."""
+    return Sheet(512, (Rule(2, p, (single(9, 1, 2),), 0, 10),), 2)
+
+
+S = answered(pair(ALL_SHUFFLED, (1, 2), (1, 1)))
+A = answered(single(3, 1, 1), pair(ANY, (1, 1), (2, 2)))
+O = Sheet(0, (Rule(1, (pair(ANY_SHUFFLED, (2, 3), (1, 2)),), (), 2, 0),), 2)
+W = Sheet(0, (Rule(1, (pair(ALL_SHUFFLED, (1, 2), (2, 2)), Fragment(ANY_SHUFFLED, (Range(3, 1, 1), Range(4, 2, 2)))), (), 2, 0),), 2)
 
 TRACES = [
     (T, '', '0 0 0 0 0'),
@@ -66,6 +79,24 @@ TRACES = [
     (N, '0@0 2@0 2@0 1@0', '0 0 0 4 0'),
     (N, '2@0', '2 0 1 1 1'),
 ]
+SHUFFLED_TRACES = [
+    (S, '0@0 1@0 0@0 9@10', '0 0 0 4 0'),
+    (S, '0@0 1@0 1@0', '2 0 1 3 3'),
+    (S, '0@0 0@0 9@0', '2 0 1 3 3'),
+    (S, '0@0 1@0 c@99', '1 0 1 3 0'),
+    (S, '0@0 1@0 0@0 c@99', '2 0 1 4 4'),
+    (A, '3@0 0@50 1@60 c@70', '1 0 1 4 0'),
+    (A, '3@0 1@50 c@999 1@999', '1 0 1 4 0'),
+    (O, '0@0 1@0 1@0', '1 0 1 3 0'),
+    (O, '0@0 1@0 2@0', '2 0 1 3 3'),
+    (O, '0@0 1@0 0@0 2@0', '0 0 0 4 0'),
+    (O, '1@0 2@0', '0 0 0 2 0'),
+    (O, '2@0', '2 0 1 1 1'),
+    (O, '1@0 0@0 1@0 1@0', '2 0 1 4 4'),
+    (O, '1@0 1@0 2@0 1@0 1@0 2@0', '0 0 0 6 0'),
+    (W, '0@0 1@0 0@0 1@0 4@0 3@0 4@0 2@0', '0 0 0 8 0'),
+    (W, '0@0 1@0 0@0 1@0 4@0 3@0 2@0', '2 0 1 7 7'),
+]
 PRINTED_BOOK = bytes.fromhex('4C4F42 0100 0000000000000000 01 01 01 00 02 00000000 00 02 00 0100 0100 01 0100 0100')
 PRINTED_TRACE, PRINTED_LINE = '1@5 0@5 2@9 2@10', '2 0 1 4 4'
 
@@ -75,13 +106,55 @@ def observations(text):
     return [(int(time), CLOCK if name == 'c' else int(name)) for name, time in pairs]
 
 
-def document_cases():
-    rows = [(written(sheet)[0], text, due) for sheet, text, due in TRACES]
-    for book, text, due in rows + [(PRINTED_BOOK, PRINTED_TRACE, PRINTED_LINE)]:
+def settled_cases(family, rows):
+    for book, text, due in rows:
         log = log_bytes(observations(text))
         said = ' '.join(map(str, guard.run(book, log, MOST)))
         assert said == due, (text, said, due)
-        yield Case('traces of document 01', book, log, MOST)
+        yield Case(family, book, log, MOST)
+
+
+def document_cases():
+    """The cases to be shown."""
+    def rows(traces):
+        return [(written(sheet)[0], text, due) for sheet, text, due in traces]
+    yield from settled_cases(SHOWN[0], rows(TRACES) + [(PRINTED_BOOK, PRINTED_TRACE, PRINTED_LINE)])
+    yield from settled_cases(SHOWN[1], rows(SHUFFLED_TRACES))
+
+
+# ---------------------------------------------------------------------------------------------
+# What shuffled means, by document 000's Definitions 8 and 9: one sequence for each range that
+# appears, interleaved in any way. guard.py goes by document 02's totals instead; on every short
+# word the two are held to be one.
+# ---------------------------------------------------------------------------------------------
+
+def interleavings(sequences):
+    """Every word that has the sequences' events, each sequence in its own order."""
+    if not any(sequences):
+        return {()}
+    return {(s[0],) + word for i, s in enumerate(sequences) if s
+            for word in interleavings(sequences[:i] + (s[1:],) + sequences[i + 1:])}
+
+
+def shuffles(fragment):
+    """The words that match a shuffled fragment."""
+    least = 1 if fragment.join == ANY_SHUFFLED else len(fragment.ranges)
+    for size in range(least, len(fragment.ranges) + 1):
+        for appearing in itertools.combinations(fragment.ranges, size):
+            for counts in itertools.product(*(range(r.u, r.v + 1) for r in appearing)):
+                yield from interleavings(tuple((r.name,) * k for r, k in zip(appearing, counts)))
+
+
+def hold_shuffled():
+    bounds = [(1, 1), (1, 2), (2, 2), (2, 3)]
+    for join, first, second in itertools.product(IN_ANY_MIX, bounds, bounds):
+        fragment = pair(join, first, second)
+        due = set(shuffles(fragment))
+        for length in range(8):
+            for word in itertools.product((0, 1), repeat=length):
+                cut = guard.Cut(None, [guard.Event(name, 0) for name in word], 0)
+                assert (length in cut.fragment_ends(fragment, 0)) == (word in due), (fragment, word)
+                assert (cut.beyond in cut.fragment_ends(fragment, 0)) == any(w[:length] == word and len(w) > length for w in due), (fragment, word)
 
 
 # ---------------------------------------------------------------------------------------------
@@ -112,6 +185,19 @@ def short_cases():
         yield Case('every short log', book, log_bytes(log), MOST)
 
 
+def short_shuffled_cases():
+    """The same of rules with a shuffled fragment: all and any of 0[2,3] and 1[1,2] before 2, and all and any of 0[1,2] and 1[1,1] answered by 9."""
+    family = 'every short log, shuffled'
+    for kind, join in itertools.product((0, 1), IN_ANY_MIX):
+        book = written(Sheet(0, (Rule(kind, (pair(join, (2, 3), (1, 2)),), (), 2, 0),), 2))[0]
+        for log in short_logs((0, 1, 2), (0,), 5):
+            yield Case(family, book, log_bytes(log), MOST)
+    for join in IN_ANY_MIX:
+        book = written(answered(pair(join, (1, 2), (1, 1))))[0]
+        for log in short_logs((0, 1, 9, CLOCK), (0, 11), 3):
+            yield Case(family, book, log_bytes(log), MOST)
+
+
 # ---------------------------------------------------------------------------------------------
 # Random sheets and logs
 # ---------------------------------------------------------------------------------------------
@@ -120,32 +206,66 @@ def some_budget(dice, records):
     return dice.pick([MOST, MOST, MOST, MOST, records, max(0, records - 1), dice.below(records + 1), 0, records + 1, 1 << 31])
 
 
-def log_cases(dice, count):
+def log_cases(dice, count, version=1):
     """Logs that follow their rules, most of them with something changed."""
     for i in range(count):
-        sheet = some_sheet(dice, shared=dice.chance(0.4))
+        sheet = some_sheet(dice, dice.chance(0.4), version)
         most = dice.pick([4, 8, 10, 12, 14]) if i % 50 else 60
         log = some_log(dice, sheet, most)
         yield Case('followed logs', written(sheet)[0], log_bytes(log), some_budget(dice, len(log)))
 
 
-def deadline_cases(dice, count):
+def deadline_cases(dice, count, version=1):
     """Logs of rules of kind 2 up to a deadline, and one observation at it or next to it."""
     for _ in range(count):
-        sheet = until_found(lambda: timed_sheet(dice))
+        sheet = until_found(lambda: timed_sheet(dice, version))
         log = deadline_log(dice, sheet)
         yield Case('deadlines', written(sheet)[0], log_bytes(log), some_budget(dice, len(log)))
 
 
-def timed_sheet(dice):
-    sheet = some_sheet(dice, shared=dice.chance(0.3))
+SHORT, LAST = 0, 1      # ranges of the fragment below: one that can be complete and below v, and the one of P's last event
+
+
+def growth_rule(dice):
+    """A rule of kind 2 whose P ends in a shuffled fragment, and a name that is not the rule's."""
+    size, names = dice.between(2, 4), dice.shuffled(range(64))
+    bounds = [(u, u + dice.below(3)) for u in (dice.between(1, 2) for _ in range(size))]
+    bounds[SHORT] = (bounds[SHORT][0], bounds[SHORT][0] + dice.between(1, 2))
+    fragment = Fragment(dice.pick(IN_ANY_MIX), tuple(Range(name, u, v) for name, (u, v) in zip(names, bounds)))
+    lead = (single(names[-1], 1, 1),) if dice.chance(0.3) else ()
+    return Rule(2, lead + (fragment,), (single(names[-2], 1, 1),), 0, dice.pick([0, 1, 10, 1000])), names[-3]
+
+
+def growth_cases(dice, count):
+    """A complete P that ends in a shuffled fragment, its last event's range at v; then the clock or a foreign event after the deadline, and perhaps one event more. In half of the cases
+    another range is below v, or unused where it may be: then P can grow, wherever its last event was."""
+    for i in range(count):
+        rule, foreign = growth_rule(dice)
+        fragment = rule.p[-1]
+        totals = [r.v for r in fragment.ranges]
+        if i % 2:
+            r = fragment.ranges[SHORT]
+            totals[SHORT] = 0 if fragment.join == ANY_SHUFFLED and dice.chance(0.4) else dice.between(r.u, r.v - 1)
+        totals[LAST] -= 1
+        names = [r.name for lead in rule.p[:-1] for r in lead.ranges]
+        names += dice.shuffled([r.name for r, k in zip(fragment.ranges, totals) for _ in range(k)]) + [fragment.ranges[LAST].name]
+        times = sorted(dice.below(4) for _ in names)
+        log = list(zip(times, names)) + [(times[-1] + rule.t + dice.pick([1, 1, 2, 50]), dice.pick([CLOCK, CLOCK, foreign]))]
+        if dice.chance(0.4):
+            log.append((log[-1][0], dice.pick([fragment.ranges[SHORT].name, rule.q[0].ranges[0].name])))
+        book = written(Sheet(1 << rule.q[0].ranges[0].name, (rule,), 2))[0]
+        yield Case('a shuffled P after its deadline', book, log_bytes(log), some_budget(dice, len(log)))
+
+
+def timed_sheet(dice, version=1):
+    sheet = some_sheet(dice, dice.chance(0.3), version)
     return sheet if any(rule.kind == 2 for rule in sheet.rules) else None
 
 
-def refused_log_cases(dice, count):
+def refused_log_cases(dice, count, version=1):
     """Records refused by 12 and 11, and lengths refused by 14."""
     for i in range(count):
-        sheet = some_sheet(dice, shared=False)
+        sheet = some_sheet(dice, False, version)
         log = some_log(dice, sheet, dice.pick([3, 6, 10]))
         kind = (11, 12, 14)[i % 3]
         if kind != 14:
@@ -172,43 +292,44 @@ def until_found(make):
             return made
 
 
-def faulty_case(dice, make):
+def faulty_case(dice, version, make):
     """A sheet with a known fault, held to that fault here."""
     def attempt():
-        sheet = some_sheet(dice, shared=dice.chance(0.5))
+        sheet = some_sheet(dice, dice.chance(0.5), version)
         made = make(sheet)
         return None if made is None else (sheet, made)
     sheet, (book, refusal, place) = until_found(attempt)
-    case = Case('faulty sheets', book, attached_log(dice, sheet), some_budget(dice, 2))
+    field = {f.at: f.what for f in written(sheet)[1]}.get(place, '')
+    case = Case('faulty sheets', book, attached_log(dice, sheet), some_budget(dice, 2), field)
     result = guard.run(case.sheet, case.log, case.budget)
     assert result == (REFUSED, refusal, 0, 0, place), (result, refusal, place)
     return case
 
 
-def fault_cases(dice, each):
-    for fault in FAULTS:
-        for _ in range(each):
-            yield faulty_case(dice, lambda sheet: faulty(dice, sheet, fault))
+def fault_cases(dice, each, version=1):
+    for fault in FAULTS + VERSION_FAULTS:
+        for _ in range(each if fault in FAULTS else AT_LEAST):
+            yield faulty_case(dice, version, lambda sheet: faulty(dice, sheet, fault))
     for _ in range(3 * each):
-        yield faulty_case(dice, lambda sheet: truncated(dice, sheet))
+        yield faulty_case(dice, version, lambda sheet: truncated(dice, sheet))
     for _ in range(2 * each):
-        yield faulty_case(dice, lambda sheet: prolonged(dice, sheet))
+        yield faulty_case(dice, version, lambda sheet: prolonged(dice, sheet))
     for _ in range(5 * each):
-        yield faulty_case(dice, lambda sheet: twice_faulty(dice, sheet, dice.pick(FAULTS), dice.pick(FAULTS)))
+        yield faulty_case(dice, version, lambda sheet: twice_faulty(dice, sheet, dice.pick(FAULTS), dice.pick(FAULTS)))
 
 
 def every_truncation():
-    """Each beginning of one sheet with all kinds of rule."""
-    sheet = Sheet(2, (T.rules[0], R.rules[0], N.rules[0]))
-    book = written(sheet)[0]
-    for length in range(len(book) + 1):
-        yield Case('every truncation', book[:length], b'', MOST)
+    """Each beginning of a sheet with all kinds of rule, and of one with all joins."""
+    for sheet in (Sheet(2, (T.rules[0], R.rules[0], N.rules[0])), Sheet(512, A.rules + S.rules + O.rules, 2)):
+        book = written(sheet)[0]
+        for length in range(len(book) + 1):
+            yield Case('every truncation', book[:length], b'', MOST)
 
 
-def flipped_cases(dice, count):
+def flipped_cases(dice, count, version=1):
     """Sheets with one or two bytes changed, whatever comes of it, and a log that follows the sheet as it was."""
     for _ in range(count):
-        sheet = some_sheet(dice, shared=dice.chance(0.5))
+        sheet = some_sheet(dice, dice.chance(0.5), version)
         book = bytearray(written(sheet)[0])
         for _ in range(dice.pick([1, 1, 2])):
             at = dice.below(len(book)) if dice.chance(0.4) else dice.between(5, len(book) - 1)
@@ -216,18 +337,22 @@ def flipped_cases(dice, count):
         yield Case('flipped bytes', bytes(book), log_bytes(some_log(dice, sheet, 8)), MOST)
 
 
+SIXTEEN_LOGS = ('', '0@0', '0@0 0@1 2@1', '0@0 0@1 0@2 c@12', '0@0 0@1 0@2 c@13', '1@0', '5@0 c@9', '3@0 1@0 0@1 1@2', '3@0 1@0 0@1 1@2 0@2')
+
+
 def edge_cases():
     """The largest sheet and its neighbours; empty sheets and logs; the order of 12 and 11; the last time."""
     family = 'edges'
-    largest = written(largest_sheet())[0]
-    assert len(largest) == 5774
     start = log_bytes([(time, time // 2) for time in range(8)])
-    for book in (largest, largest + b'\0', largest[:-1]):
-        for log in (b'', start, b'\0'):
-            yield Case(family, book, log, MOST)
+    for largest in (written(largest_sheet(version))[0] for version in guard.LAST_JOIN):
+        assert len(largest) == 5774
+        for book in (largest, largest + b'\0', largest[:-1]):
+            for log in (b'', start, b'\0'):
+                yield Case(family, book, log, MOST)
     sixteen = Sheet(2, (T.rules + R._replace(outputs=2).rules + N.rules) * 5 + T.rules)
-    for text in ('', '0@0', '0@0 0@1 2@1', '0@0 0@1 0@2 c@12', '0@0 0@1 0@2 c@13', '1@0', '5@0 c@9'):
-        yield Case(family, written(sixteen)[0], log_bytes(observations(text)), MOST)
+    mixed = Sheet(512, (S.rules + O.rules + A.rules) * 5 + O.rules, 2)
+    for sheet, text in itertools.product((sixteen, mixed), SIXTEEN_LOGS):
+        yield Case(family, written(sheet)[0], log_bytes(observations(text)), MOST)
     book = written(T)[0]
     for log in (b'', b'\0', b'\xff' * 4, b'\xff' * 5, b'\xff' * 10, b'\x40' * 5, b'\0' * 5):
         for budget in (0, 1, 2, MOST):
@@ -254,6 +379,13 @@ def all_cases():
     yield from refused_log_cases(dice, 1200)
     yield from deadline_cases(dice, 2000)
     yield from log_cases(dice, 4500)
+    yield from short_shuffled_cases()
+    yield from fault_cases(dice, 80, 2)
+    yield from flipped_cases(dice, 300, 2)
+    yield from refused_log_cases(dice, 800, 2)
+    yield from deadline_cases(dice, 2000, 2)
+    yield from growth_cases(dice, 600)
+    yield from log_cases(dice, 2000, 2)
 
 
 # ---------------------------------------------------------------------------------------------
@@ -277,10 +409,60 @@ def case_bytes(case, result, why):
                      struct.pack('<I', case.budget), guard.answer_bytes(result), bytes([why])))
 
 
+# What change 1 brings, by a word for each, the last of them refusals. 'join 2 is not 0': with join 0 in the place of 2 the case is due something else.
+SWAPS = {'join 2 is not 0': (ALL_SHUFFLED, ALL), 'join 3 is not 1': (ANY_SHUFFLED, ANY),
+         'join 2 is not 3': (ALL_SHUFFLED, ANY_SHUFFLED), 'join 3 is not 2': (ANY_SHUFFLED, ALL_SHUFFLED)}
+FEATURES = (['version 2 ' + word for word in ANSWERS] + ['version 2 refusal %d' % r for r in REFUSALS if r != 3] + ['version 2 broken by ' + word for word in CAUSES[1:]]
+            + ['join %d %s' % row for row in itertools.product(IN_ANY_MIX, ANSWERS[:3])] + list(SWAPS)
+            + ['shuffled P can grow', 'shuffled P cannot grow', 'version 3', 'join 2 in version 1', 'join 3 in version 1', 'join 4 in version 2', 'v = 0 in version 2'])
+
+
+def with_join(sheet, old, new):
+    """The sheet with one join in the place of another."""
+    def ordering(fragments):
+        return tuple(f._replace(join=new) if f.join == old else f for f in fragments)
+    return sheet._replace(rules=tuple(rule._replace(p=ordering(rule.p), q=ordering(rule.q)) for rule in sheet.rules))
+
+
+def refused_value(case, refusal, version):
+    """What the refusal of a faulty sheet is about, as far as change 1 has to do with it."""
+    value = case.sheet[refusal.place]
+    if refusal.number == 3 and case.sheet[3:5] == b'\3\0':
+        yield 'version 3'
+    if refusal.number == 4 and case.field == 'join':
+        yield 'join %d in version %d' % (value, version)
+    if refusal.number == 7 and case.field == 'v' and case.sheet[refusal.place:][:2] == b'\0\0':
+        yield 'v = 0 in version %d' % version
+
+
+def features(case, result, why):
+    version = int.from_bytes(case.sheet[3:5], 'little')
+    if version == 2:
+        yield 'version 2 ' + ANSWERS[result.answer]
+        yield 'version 2 refusal %d' % result.refusal
+        yield 'version 2 broken by ' + CAUSES[why]
+    try:
+        sheet = guard.read_sheet(case.sheet)
+    except Refused as refusal:
+        if refusal.number in (3, 4, 7):
+            yield from refused_value(case, refusal, version)
+        return
+    if case.family == 'a shuffled P after its deadline' and result.taken == len(case.log) // 5 and result.answer == OPEN:
+        yield 'shuffled P can grow'
+    if case.family == 'a shuffled P after its deadline' and why > 1:
+        yield 'shuffled P cannot grow'
+    if version == 2 and result.answer != REFUSED:
+        joins = {fragment.join for rule in sheet.rules for fragment in rule.p + rule.q}
+        yield from ('join %d %s' % (join, ANSWERS[result.answer]) for join in joins)
+        for word, (old, new) in SWAPS.items():
+            if old in joins and guard.run(written(with_join(sheet, old, new))[0], case.log, case.budget) != result:
+                yield word
+
+
 class Tally:
     def __init__(self):
         self.cases = 0
-        self.families, self.answers, self.refusals, self.causes = Counter(), Counter(), Counter(), Counter()
+        self.families, self.answers, self.refusals, self.causes, self.features = Counter(), Counter(), Counter(), Counter(), Counter()
         self.several = 0
 
     def add(self, case, result, why):
@@ -290,13 +472,15 @@ class Tally:
         self.refusals[result.refusal] += 1
         self.causes[why] += 1
         self.several += bin(result.mask).count('1') > 1
+        self.features.update(features(case, result, why))
 
     def hold(self):
-        """Every answer, refusal and cause is there often enough."""
+        """Every answer, refusal, cause and feature is there often enough."""
         assert self.cases >= 10000
         assert all(self.answers[a] >= AT_LEAST for a in range(4)), self.answers
         assert all(self.refusals[r] >= AT_LEAST for r in REFUSALS), self.refusals
         assert all(self.causes[c] >= AT_LEAST for c in (1, 2, 3)), self.causes
+        assert all(self.features[f] >= AT_LEAST for f in FEATURES), self.features
 
     def lines(self, number):
         """The lines of agreement, each count in the form that `number` gives it."""
@@ -310,13 +494,14 @@ class Tally:
 
 
 def write(folder):
+    hold_shuffled()
     body, shown, tally = [], [], Tally()
     for case in all_cases():
         result = guard.run(case.sheet, case.log, case.budget)
         why = cause(case, result)
         body.append(case_bytes(case, result, why))
         tally.add(case, result, why)
-        if case.family == 'traces of document 01':
+        if case.family in SHOWN:
             shown.append(' '.join(map(str, result)))
     tally.hold()
     os.makedirs(os.path.join(folder, 'data'), exist_ok=True)
@@ -327,6 +512,7 @@ def write(folder):
         f.writelines(line + '\n' for line in tally.lines(str))
         f.write('more than one rule in the mask: %d\n' % tally.several)
         f.writelines('%s: %d\n' % row for row in tally.families.items())
+        f.writelines('%s: %d\n' % (feature, tally.features[feature]) for feature in FEATURES)
     with open(os.path.join(folder, 'stdout'), 'w') as f:
         f.writelines(line + '\n' for line in shown)
         f.writelines(line + '\n' for line in tally.lines(lambda n: '%d of %d' % (n, n)))

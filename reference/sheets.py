@@ -6,7 +6,7 @@ of it follows from the fault itself: the refusal's number at the field's offset.
 
 from collections import namedtuple
 
-from guard import Fragment, Range, Rule, Sheet, names_of
+from guard import LAST_JOIN, Fragment, Range, Rule, Sheet, names_of
 
 # what: the field's kind. rule: the rule it stands in (None in the header). used: the names that the
 # rule has before this field. low: for a v, the u before it.
@@ -56,7 +56,7 @@ def written(sheet):
     """The bytes of a sheet and the list of its fields."""
     w = Writer()
     w.put(int.from_bytes(b'LOB', 'little'), 3, 'mark')
-    w.put(1, 2, 'version')
+    w.put(sheet.version, 2, 'version')
     w.put(sheet.outputs, 8, 'outputs')
     w.put(len(sheet.rules), 1, 'rule count')
     for rule in sheet.rules:
@@ -93,30 +93,33 @@ def some_range(dice, name):
     return Range(name, u, v)
 
 
-def some_fragment(dice, names):
-    count = min(len(names), dice.pick([1, 1, 1, 2, 2, 3]))
-    return Fragment(dice.below(2), tuple(some_range(dice, names.pop()) for _ in range(count)))
+RANGE_COUNTS = {1: [1, 1, 1, 2, 2, 3], 2: [1, 2, 2, 3, 3, 4]}    # by version: a mix needs two ranges
 
 
-def some_ordering(dice, names):
+def some_fragment(dice, names, version):
+    count = min(len(names), dice.pick(RANGE_COUNTS[version]))
+    return Fragment(dice.below(LAST_JOIN[version] + 1), tuple(some_range(dice, names.pop()) for _ in range(count)))
+
+
+def some_ordering(dice, names, version):
     """One to three fragments; what they use is taken off the end of `names`, which is not empty."""
-    fragments = [some_fragment(dice, names)]
+    fragments = [some_fragment(dice, names, version)]
     for _ in range(dice.pick([0, 0, 0, 0, 1, 1, 2])):
         if names:
-            fragments.append(some_fragment(dice, names))
+            fragments.append(some_fragment(dice, names, version))
     return tuple(fragments)
 
 
-def some_rule(dice, pool, outputs, kind):
+def some_rule(dice, pool, outputs, kind, version=1):
     """A rule on names of the pool, which has at least two inputs and two outputs."""
     inputs = dice.shuffled([n for n in pool if not outputs >> n & 1])
     plugin = dice.shuffled([n for n in pool if outputs >> n & 1])
     if kind == 2:
-        q = some_ordering(dice, plugin)
-        p = some_ordering(dice, dice.shuffled(inputs + plugin))
+        q = some_ordering(dice, plugin, version)
+        p = some_ordering(dice, dice.shuffled(inputs + plugin), version)
         return Rule(2, p, q, 0, dice.pick([0, 1, 2, 3, 5, 10, 10, 100, 4294967295]))
     trigger = inputs.pop()
-    return Rule(kind, some_ordering(dice, dice.shuffled(inputs + plugin)), (), trigger, 0)
+    return Rule(kind, some_ordering(dice, dice.shuffled(inputs + plugin), version), (), trigger, 0)
 
 
 def other_bounds(dice, r):
@@ -126,10 +129,16 @@ def other_bounds(dice, r):
     return Range(r.name, u, v)
 
 
-def variant(dice, rule):
+def other_join(dice, join, version):
+    """Now and then the other of all and any; from version 2 on also shuffled where it was not, and the other way round."""
+    join ^= dice.chance(0.2)
+    return join ^ 2 if version > 1 and dice.chance(0.2) else join
+
+
+def variant(dice, rule, version=1):
     """A rule on the same names in the same places, so that one log goes some way through both."""
     def ordering(fragments):
-        return tuple(Fragment(f.join ^ dice.chance(0.2), tuple(other_bounds(dice, r) for r in f.ranges))
+        return tuple(Fragment(other_join(dice, f.join, version), tuple(other_bounds(dice, r) for r in f.ranges))
                      for f in fragments)
     kind = rule.kind if rule.kind == 2 or dice.chance(0.5) else 1 - rule.kind
     t = dice.pick([rule.t, 0, 1, 5, 10]) if kind == 2 else 0
@@ -152,28 +161,29 @@ def some_kind(dice):
     return dice.pick([0, 1, 1, 2, 2, 2])
 
 
-def some_sheet(dice, shared):
+def some_sheet(dice, shared, version=1):
     """One to four rules. If shared, they have names in common: two to four variants of one rule, or
     rules on one small pool of names. Else no name is in two rules."""
     count = dice.pick([1, 1, 1, 1, 2, 2, 3, 4])
     if shared:
         pool, outputs = some_pool(dice, dice.pick([4, 6, 8, 12]))
-        rules = [some_rule(dice, pool, outputs, some_kind(dice)) for _ in range(count)]
+        rules = [some_rule(dice, pool, outputs, some_kind(dice), version) for _ in range(count)]
         if dice.chance(0.7):
-            rules = rules[:1] + [variant(dice, rules[0]) for _ in range(max(1, count - 1))]
+            rules = rules[:1] + [variant(dice, rules[0], version) for _ in range(max(1, count - 1))]
         rules = dice.shuffled(rules)
     else:
         pool, outputs = some_pool(dice, 12 * count)
-        rules = [some_rule(dice, pool[12 * i:12 * i + 12], outputs, some_kind(dice)) for i in range(count)]
-    return Sheet(outputs, tuple(rules))
+        rules = [some_rule(dice, pool[12 * i:12 * i + 12], outputs, some_kind(dice), version) for i in range(count)]
+    return Sheet(outputs, tuple(rules), version)
 
 
-def largest_sheet():
+def largest_sheet(version=1):
     """Sixteen rules of kind 2, each with sixteen fragments and all 64 names: 5,774 bytes."""
     def ordering(first):
-        return tuple(Fragment(i % 2, tuple(Range(first + 4 * i + j, 1, 1 + j) for j in range(4))) for i in range(8))
+        joins = LAST_JOIN[version] + 1
+        return tuple(Fragment(i % joins, tuple(Range(first + 4 * i + j, 1, 1 + j) for j in range(4))) for i in range(8))
     rule = Rule(2, ordering(0), ordering(32), 0, 7)
-    return Sheet((1 << 64) - (1 << 32), (rule,) * 16)
+    return Sheet((1 << 64) - (1 << 32), (rule,) * 16, version)
 
 
 # ---------------------------------------------------------------------------------------------
@@ -191,6 +201,18 @@ def outside(low, high):
 def one_of(*values):
     def value(dice, sheet, field):
         return dice.pick(values)
+    return value
+
+
+def no_join(dice, sheet, field):
+    """A join outside those of the sheet's version."""
+    return outside(0, LAST_JOIN[sheet.version])(dice, sheet, field)
+
+
+def join_past(by):
+    """A join so far past the last one of the sheet's version: in version 1 that of a later version."""
+    def value(dice, sheet, field):
+        return LAST_JOIN[sheet.version] + by
     return value
 
 
@@ -226,12 +248,12 @@ def an_input(dice, sheet, field):
 # refusal, kind of field, a value that the refusal names (None where the sheet has no such value)
 FAULTS = [
     (2, 'mark', other_mark),
-    (3, 'version', one_of(0, 2, 256, 257, 65535)),
+    (3, 'version', one_of(0, 4, 256, 257, 258, 513, 65535)),
     (4, 'rule count', outside(1, 16)),
     (4, 'kind', outside(0, 2)),
     (4, 'P count', outside(1, 8)),
     (4, 'Q count', outside(1, 8)),
-    (4, 'join', outside(0, 1)),
+    (4, 'join', no_join),
     (4, 'range count', outside(1, 8)),
     (5, 'zero Q count', one_of(1, 2, 8, 9, 255)),
     (5, 'zero trigger', one_of(1, 2, 63, 64, 70, 255)),
@@ -245,6 +267,13 @@ FAULTS = [
     (8, 'Q name', in_rule),
     (9, 'trigger', an_output),
     (9, 'Q name', an_input),
+]
+# those whose number or whose values are the version's
+VERSION_FAULTS = [
+    (3, 'version', one_of(3)),
+    (4, 'join', join_past(1)),
+    (4, 'join', join_past(2)),
+    (7, 'v', one_of(0)),
 ]
 
 

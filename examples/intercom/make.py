@@ -3,7 +3,7 @@
     python3 make.py FOLDER [FILE..]     writes SHEET.lob, LOG.lot and due.txt to FOLDER
 
 Without a FILE it takes the intercom's five. All files are read before anything is written: at the first fault of a text it says file, line and reason, writes
-nothing, and ends with status 1. A sheet that is written keeps document 01's layout: the guard accepts it.
+nothing, and ends with status 1. A sheet that is written keeps the layout of its version: the guard accepts it.
 
 A line of due.txt is: log, sheet, answer, refusal, mask, taken, place. It is the 'due' line of the text file as numbers; nothing here judges a log.
 """
@@ -20,6 +20,8 @@ CLOCK = 0xFF
 KINDS = {'once': 0, 'each': 1, 'within': 2}
 SIGNS = {'once': '<<', 'each': '<<', 'within': '=>'}
 JOINS = {'all': 0, 'any': 1}
+SHUFFLED = 2                    # added to a join; from version 2 on
+VERSIONS = (1, 2)               # of sheets
 ANSWERS = {'whole': 0, 'open': 1, 'broken': 2}
 MOST_TIME = 4294967295
 MOST_RECORDS = 1000000          # of a log made here; the program takes 13,107 of them, the host call more
@@ -63,8 +65,10 @@ class Component:
     def __init__(self):
         self.numbers, self.outputs = {}, 0
         self.sheets, self.parts, self.logs = {}, {}, {}
+        self.versions = {}      # of the sheets
         self.lines = {}         # the line of each sheet and log, by the name of its file
-        self.rules = None       # of the sheet that is being read
+        self.sheet = None       # the name of the sheet that is being read
+        self.rules = None       # of that sheet
         self.part = None        # the name of the part that is being read
         self.records = None     # of the part or log that is being read
         self.dues = None        # of the log that is being read
@@ -97,10 +101,13 @@ class Component:
     # -- sheets
 
     def line_sheet(self, words):
-        """sheet NAME"""
-        name, = words
+        """sheet NAME, or sheet NAME version 2"""
+        name, *version = words
+        need(len(version) in (0, 2) and version[:1] in ([], ['version']), 'the form of this line is: %s', self.line_sheet.__doc__)
         self.file_of(name, '.lob', 'sheet')
-        self.rules = self.sheets[name] = {}
+        self.versions[name] = number(version[1], "a sheet's version", VERSIONS[0], VERSIONS[-1]) if version else VERSIONS[0]
+        self.sheet, self.rules = name, {}
+        self.sheets[name] = self.rules
 
     def file_of(self, name, ending, what):
         need(re.fullmatch(NAME, name), '%s: the name of a %s is a letter, then letters, digits, - and _', name, what)
@@ -142,15 +149,16 @@ class Component:
         return [self.fragment(f.strip(), used, in_q) for f in fragments]
 
     def fragment(self, text, used, in_q):
-        """all{range, ..}, any{range, ..} or a range alone"""
+        """all{range, ..} or any{range, ..}, with or without shuffled behind it, or a range alone"""
         need(text, 'a fragment is missing beside <, << or =>')
-        join, ranges = 'all', [text]
+        join, ranges = JOINS['all'], [text]
         if '{' in text or '}' in text:
-            parts = re.fullmatch(r'(all|any) ?\{([^{}]*)\}', text)
-            need(parts, '%s: a fragment is all{..}, any{..} or one range', text)
-            join, ranges = parts[1], re.split(r',(?![^\[]*\])', parts[2])
+            parts = re.fullmatch(r'(all|any) ?\{([^{}]*)\} ?(shuffled)?', text)
+            need(parts, '%s: a fragment is all{..}, any{..}, either of them with shuffled behind it, or one range', text)
+            need(not parts[3] or self.versions[self.sheet] > 1, "a shuffled fragment is of version 2: the sheet begins with 'sheet %s version 2'", self.sheet)
+            join, ranges = JOINS[parts[1]] + (SHUFFLED if parts[3] else 0), re.split(r',(?![^\[]*\])', parts[2])
         need(len(ranges) <= 8, 'a fragment has at most 8 ranges, and this one has %d', len(ranges))
-        return bytes([JOINS[join], len(ranges)]) + b''.join(self.range(r.strip(), used, in_q) for r in ranges)
+        return bytes([join, len(ranges)]) + b''.join(self.range(r.strip(), used, in_q) for r in ranges)
 
     def range(self, text, used, in_q):
         """name, name+ or name[u,v]"""
@@ -170,7 +178,7 @@ class Component:
 
     def sheet_bytes(self, name):
         rules = self.sheets[name].values()
-        return b'LOB' + struct.pack('<HQB', 1, self.outputs, len(rules)) + b''.join(rules)
+        return b'LOB' + struct.pack('<HQB', self.versions[name], self.outputs, len(rules)) + b''.join(rules)
 
     # -- runs
 
@@ -245,7 +253,7 @@ class Component:
     # -- lines
 
     LINES = {'in': line_in, 'out': line_out, 'sheet': line_sheet, 'rule': line_rule, 'part': line_part, 'log': line_log, 'due': line_due, 'why': line_why}
-    LENGTHS = {'in': (2, 2), 'out': (2, 2), 'sheet': (1, 1), 'rule': (3, None), 'part': (1, 1), 'log': (1, 1), 'due': (4, None), 'why': (0, None)}
+    LENGTHS = {'in': (2, 2), 'out': (2, 2), 'sheet': (1, 3), 'rule': (3, None), 'part': (1, 1), 'log': (1, 1), 'due': (4, None), 'why': (0, None)}
 
     def read_line(self, line_number, line):
         self.line = line_number

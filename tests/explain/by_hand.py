@@ -1,11 +1,11 @@
-"""Cases by hand: what document 01's words say of its traces, and of each refusal."""
+"""Cases by hand: what the words of document 01 and of change 1 say of their traces, and of each refusal."""
 
 import make
 from logs import log_bytes
 from runs import TEXTS, Group
 from sheets import written
 
-T, R, N = (written(sheet)[0] for sheet in (make.T, make.R, make.N))
+T, R, N, S, O = (written(sheet)[0] for sheet in (make.T, make.R, make.N, make.S, make.O))
 PATIENT = written(make.Sheet(2, (make.T.rules[0]._replace(t=4000000000),)))[0]
 
 TRACES = [
@@ -25,15 +25,30 @@ TRACES = [
     (T, '0@0 0@5 c@14', ['waits for: 0, 1 (until 15)']),
     (T, '0@0 0@1 0@2 c@12', ['waits for: 1 (until 12)']),
     (N, '0@0', ['waits for: 1, 2']),
+    (S, '0@0 1@0', ['waits for: 0, 9 (until 10)']),
+    (S, '0@0 1@0 0@0', ['waits for: 9 (until 10)']),
+    (S, '0@0 1@0 1@0', ['out of order: 1 is not taken there', 'expected at 0: 0, 9 (until 10)']),
+    (S, '0@0 1@0 0@0 c@99', ['late: the last millisecond in time was 10', 'expected at 10: 9 (until 10)']),
+    (O, '0@0 1@0 1@0', ['waits for: 0']),
+    (O, '0@0 1@0 2@0', ['out of order: 2 is not taken there', 'expected at 0: 0, 1']),
+    (O, '0@0 1@0 0@0', ['waits for: 0, 1, 2']),
 ]
 
 
 def traces(runs):
-    """Document 01's traces: what its words say of what comes next, and until when."""
-    group = Group('traces of document 01 by hand')
+    """Traces of document 01 and of change 1: what their words say of what comes next, and until when."""
+    group = Group('traces of document 01 and of change 1 by hand')
     for book, text, lines in TRACES:
         out, err, _ = said = runs.on(book, log_bytes(make.observations(text)))
         group.hold_that(text, out[-len(lines):] == ['  ' + line for line in lines] and not err, said)
+    return group
+
+
+def shown(runs):
+    """What is said of a sheet: its version, its names, its rules, and what shuffled means where it is."""
+    group = Group('sheets of both versions by hand')
+    for book, heads in HEADS.items():
+        group.hold(heads, runs.on(book, b''), heads + ['whole after 0'], 0)
     return group
 
 
@@ -48,12 +63,15 @@ SHEETS = [
     (1, R[:33], b'', 32, SECOND + 'v: found 1 of its 2 bytes'),
     (1, changed(R, 13, 2), b'', 34, 'rule 1, kind: found 0 of its 1 bytes'),
     (2, b'LOL' + R[3:], b'', 0, 'mark: found 4C 4F 4C; due 4C 4F 42'),
-    (3, changed(R, 4, 1), b'', 3, 'version: found 257; due 1'),
+    (3, changed(R, 4, 1), b'', 3, 'version: found 257; due 1 or 2'),
+    (3, changed(S, 3, 3), b'', 3, 'version: found 3; due 1 or 2'),
     (4, changed(R, 13, 17), b'', 13, 'rule count: found 17; due 1 to 16'),
     (4, changed(R, 14, 3), b'', 14, 'rule 0, kind: found 3; due 0, 1 or 2'),
     (4, changed(R, 15, 9), b'', 15, 'rule 0, P count: found 9; due 1 to 8'),
     (4, changed(T, 16, 0), b'', 16, 'rule 0, Q count: found 0; due 1 to 8'),
-    (4, changed(R, 22, 2), b'', 22, 'rule 0, fragment 1 of 1 in P, join: found 2; due 0 or 1'),
+    (4, changed(R, 22, 2), b'', 22, 'rule 0, fragment 1 of 1 in P, join: found 2; due 0 or 1 in version 1; 2 and 3, shuffled, are of version 2'),
+    (4, changed(O, 3, 1), b'', 22, 'rule 0, fragment 1 of 1 in P, join: found 3; due 0 or 1 in version 1; 2 and 3, shuffled, are of version 2'),
+    (4, changed(O, 22, 4), b'', 22, 'rule 0, fragment 1 of 1 in P, join: found 4; due 0 to 3 in version 2'),
     (4, changed(T, 30, 0), b'', 30, 'rule 0, fragment 1 of 1 in Q, range count: found 0; due 1 to 8'),
     (5, changed(R, 16, 9), b'', 16, 'rule 0, Q count: found 9; due 0 in kinds 0 and 1'),
     (5, changed(T, 17, 70), b'', 17, 'rule 0, trigger: found 70; due 0 in kind 2'),
@@ -74,7 +92,13 @@ RECORDS = [
     (12, '1@5 64@4', 5, 'record 2: 64 at 4; the latest time is 5', ['open after 1: rules 0', 'rule 0  each all{0, 1} << 2', '  waits for: 0']),
     (12, '254@9', 0, 'record 1: 254 at 9; the latest time is 0', ['whole after 0']),
 ]
-HEADS = {R: ['inputs: 0, 1, 2', 'outputs: none', 'rule 0  each all{0, 1} << 2']}
+HEADS = {
+    R: ['version: 1', 'inputs: 0, 1, 2', 'outputs: none', 'rule 0  each all{0, 1} << 2'],
+    S: ['version: 2', 'inputs: 0, 1', 'outputs: 9', 'rule 0  within 10 all{0[1,2], 1} shuffled => 9[1,2]',
+        'all{..} shuffled: every name, mixed in any way; its bounds are for how often it comes in all'],
+    O: ['version: 2', 'inputs: 0, 1, 2', 'outputs: none', 'rule 0  each any{0[2,3], 1[1,2]} shuffled << 2',
+        'any{..} shuffled: at least one name, mixed in any way; the bounds of each that comes are for how often it comes in all'],
+}
 
 
 def refusals(runs, stubbed):

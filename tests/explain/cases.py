@@ -66,11 +66,12 @@ def intercom(runs):
 def faults(runs, dice, count):
     """Sheets with known faults, some with words for their names."""
     group = Group('faulty sheets, with the field')
-    makers = [lambda s, fault=fault: sheets.faulty(dice, s, fault) for fault in sheets.FAULTS]
+    known = sheets.FAULTS + sheets.VERSION_FAULTS
+    makers = [lambda s, fault=fault: sheets.faulty(dice, s, fault) for fault in known]
     makers += [lambda s: sheets.truncated(dice, s), lambda s: sheets.prolonged(dice, s)] * 4
-    makers += [lambda s: sheets.twice_faulty(dice, s, dice.pick(sheets.FAULTS), dice.pick(sheets.FAULTS))] * 4
+    makers += [lambda s: sheets.twice_faulty(dice, s, dice.pick(known), dice.pick(known))] * 4
     while group.count < count:
-        sheet = sheets.some_sheet(dice, shared=dice.chance(0.5))
+        sheet = sheets.some_sheet(dice, dice.chance(0.5), dice.pick([1, 2]))
         fault = makers[group.count % len(makers)](sheet)
         if fault is None:
             continue
@@ -100,8 +101,9 @@ PHRASES = ('late: the last', 'was in time until', 'out of order', 'waits for', '
 def random_logs(runs, dice, count):
     """The reference's cases under another seed: logs that follow their rules, those that go up to a deadline, and refused ones."""
     group, met = Group('sheets and logs by the reference: what was expected, and until when'), set()
-    each = count // 5
-    for case in itertools.chain(make.log_cases(dice, 2 * each), make.deadline_cases(dice, each), growing_cases(dice, each), make.refused_log_cases(dice, each)):
+    each = count // 8
+    for case in itertools.chain(make.log_cases(dice, 2 * each), make.deadline_cases(dice, each), growing_cases(dice, each), make.refused_log_cases(dice, each),
+                                make.log_cases(dice, 2 * each, 2), make.deadline_cases(dice, each, 2)):
         lines, status = due.of_log(case.sheet, case.log, guard.run(case.sheet, case.log, MOST), {}, TEXTS)
         group.hold((case.sheet.hex(), case.log.hex()), runs.on(case.sheet, case.log), lines, status)
         met |= {phrase for phrase in PHRASES if any(phrase in line for line in lines)}
@@ -119,12 +121,14 @@ def intercom_make():
 
 def notation(runs, dice, count):
     """What explain prints of a sheet, read by the intercom's own reader of that notation, is the sheet again."""
-    group, notes = Group('rules printed, and read back to the same bytes'), intercom_make()
+    group, notes = Group('version and rules printed, and read back to the same bytes'), intercom_make()
     while group.count < count:
-        sheet = sheets.largest_sheet() if group.count == 0 else sheets.some_sheet(dice, shared=dice.chance(0.5))
+        version = 1 + group.count % 2
+        sheet = sheets.largest_sheet(version) if group.count < 2 else sheets.some_sheet(dice, dice.chance(0.5), version)
         component, names = notes.Component(), ['%s %d n%d' % ('out' if sheet.outputs >> n & 1 else 'in', n, n) for n in range(64)]
         said = runs.on(written(sheet)[0], b'', '\n'.join(names).encode())
-        for number, line in enumerate(names + ['sheet s'] + [line for line in said[0] if line.startswith('rule ')], 1):
+        head = [line.replace('version: ', 'sheet s version ') for line in said[0] if line.startswith('version: ')]
+        for number, line in enumerate(names + head + [line for line in said[0] if line.startswith('rule ')], 1):
             component.read_line(number, line)
         group.hold_that(sheet, component.sheet_bytes('s') == written(sheet)[0] and said[2] == 0, said)
     return group
@@ -135,7 +139,7 @@ def scrambled(dice, data):
     data = bytearray(data)
     for _ in range(dice.below(6)):
         at = dice.below(len(data) + 1)
-        data[at:at + dice.below(3)] = bytes(dice.pick([0, 1, 2, 8, 9, 63, 64, 255, dice.below(256)]) for _ in range(dice.below(3)))
+        data[at:at + dice.below(3)] = bytes(dice.pick([0, 1, 2, 3, 4, 8, 9, 63, 64, 255, dice.below(256)]) for _ in range(dice.below(3)))
     if dice.chance(0.1):
         data = bytes(dice.below(256) for _ in range(dice.below(400)))
     return bytes(data)
@@ -145,7 +149,7 @@ def any_bytes(runs, dice, count):
     """Any bytes as sheet, log and names: the verdict is the reference's, and names that are no names are found so."""
     group = Group('any bytes as sheet, log and names')
     for number in range(count):
-        case = next(make.log_cases(dice, 1))
+        case = next(make.log_cases(dice, 1, 1 + number % 2))
         book, log = scrambled(dice, case.sheet) if dice.chance(0.7) else case.sheet, scrambled(dice, case.log)
         names = scrambled(dice, b'in 3 recalc\nout 5 finish # last\n  \nrule A each 3 << 5\n') if dice.chance(0.3) else None
         result = guard.run(book, log, MOST)
@@ -161,7 +165,7 @@ def main(program, stub, seed):
     dice = Dice(random.Random(seed).random)
     with tempfile.TemporaryDirectory() as folder:
         runs, stubbed = Runs(program, folder), Runs(stub, folder)
-        groups = [by_hand.traces(runs), by_hand.refusals(runs, stubbed), intercom(runs), faults(runs, dice, 200), random_logs(runs, dice, 400), any_bytes(runs, dice, 200),
+        groups = [by_hand.traces(runs), by_hand.shown(runs), by_hand.refusals(runs, stubbed), intercom(runs), faults(runs, dice, 200), random_logs(runs, dice, 640), any_bytes(runs, dice, 200),
                   notation(runs, dice, 60), calls.arguments(runs), calls.names(runs), calls.documented(runs), calls.other_library(stubbed)]
     return any([group.tell() for group in groups])
 

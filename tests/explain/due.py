@@ -18,9 +18,16 @@ def range_text(names, r):
     return word(names, r.name) + bounds
 
 
+JOINS = ('all{%s}', 'any{%s}', 'all{%s} shuffled', 'any{%s} shuffled')
+SHUFFLED = {
+    2: 'all{..} shuffled: every name, mixed in any way; its bounds are for how often it comes in all',
+    3: 'any{..} shuffled: at least one name, mixed in any way; the bounds of each that comes are for how often it comes in all',
+}
+
+
 def fragment_text(names, fragment):
     inside = ', '.join(range_text(names, r) for r in fragment.ranges)
-    return inside if fragment.join == 0 and len(fragment.ranges) == 1 else '%s{%s}' % (('all', 'any')[fragment.join], inside)
+    return inside if fragment.join == 0 and len(fragment.ranges) == 1 else JOINS[fragment.join] % inside
 
 
 def ordering_text(names, fragments):
@@ -38,12 +45,16 @@ def set_line(what, names, chosen):
     return what + ': ' + (', '.join(word(names, n) for n in sorted(chosen)) or 'none')
 
 
-def sheet_lines(names, outputs, rules):
-    """The rules that were read, all of them or those before a fault."""
-    used = set().union(*map(names_of, rules)) if rules else set()
-    plugin = {n for n in used if outputs >> n & 1}
-    heads = [set_line('inputs', names, used - plugin), set_line('outputs', names, plugin)] if rules else []
-    return heads + [rule_line(names, number, rule) for number, rule in enumerate(rules)]
+def sheet_lines(names, sheet, count):
+    """The rules that were read, all of them or those before a fault: so many."""
+    rules = sheet.rules[:count]
+    if not rules:
+        return []
+    used = set().union(*map(names_of, rules))
+    plugin = {n for n in used if sheet.outputs >> n & 1}
+    joins = {fragment.join for rule in rules for fragment in rule.p + rule.q}
+    heads = ['version: %d' % sheet.version, set_line('inputs', names, used - plugin), set_line('outputs', names, plugin)]
+    return heads + [rule_line(names, number, rule) for number, rule in enumerate(rules)] + [line for join, line in SHUFFLED.items() if join in joins]
 
 
 # ---- what a rule takes
@@ -141,7 +152,7 @@ def refused_log_lines(names, rules, log, events, result, texts):
 def of_log(book, log, result, names, texts):
     """The lines and the exit status for an accepted sheet and the five numbers due."""
     sheet, events = guard.read_sheet(book), events_of(log)
-    lines = sheet_lines(names, sheet.outputs, sheet.rules)
+    lines = sheet_lines(names, sheet, len(sheet.rules))
     if result.answer == REFUSED:
         lines += refused_log_lines(names, sheet.rules, log, events, result, texts)
     elif result.answer == BROKEN:
@@ -154,10 +165,13 @@ def of_log(book, log, result, names, texts):
 # ---- fields
 
 VALUES = {
-    'mark': '4C 4F 42', 'version': '1', 'rule count': '1 to 16', 'kind': '0, 1 or 2', 'P count': '1 to 8', 'Q count': '1 to 8', 'zero Q count': '0 in kinds 0 and 1',
-    'trigger': 'an input, 0 to 63', 'zero trigger': '0 in kind 2', 'zero t': '0 in kinds 0 and 1', 'join': '0 or 1', 'range count': '1 to 8',
+    'mark': '4C 4F 42', 'version': '1 or 2', 'rule count': '1 to 16', 'kind': '0, 1 or 2', 'P count': '1 to 8', 'Q count': '1 to 8', 'zero Q count': '0 in kinds 0 and 1',
+    'trigger': 'an input, 0 to 63', 'zero trigger': '0 in kind 2', 'zero t': '0 in kinds 0 and 1', 'range count': '1 to 8',
     'P name': '0 to 63, and not in the rule yet', 'Q name': 'an output, 0 to 63, that the rule does not have yet', 'u': '1 to 65535', 'v': 'from u to 65535',
 }
+
+
+JOIN_VALUES = {1: '0 or 1 in version 1; 2 and 3, shuffled, are of version 2', 2: '0 to 3 in version 2'}
 
 
 def where(fields, place):
@@ -194,15 +208,16 @@ def found_text(names, field, data):
     return '%d' % value + (' ' + names[value] if named else '')
 
 
-def field_line(names, fields, data, place, length):
-    """The field at the refused place: `fields` and `length` are those of the sound sheet."""
+def field_line(names, version, fields, data, place, length):
+    """The field at the refused place: `version`, `fields` and `length` are those of the sound sheet."""
     if place == length:
         return '  after the last rule: found %d more, the first is %d; due none' % (len(data) - place, data[place])
     field, label = where(fields, place)
     if len(data) - place < field.size:
         return '  %s: found %d of its %d bytes' % (label, len(data) - place, field.size)
     low = ', u is %d' % field.low if field.what == 'v' else ''
-    return '  %s: found %s; due %s%s' % (label, found_text(names, field, data), VALUES[field.what], low)
+    values = JOIN_VALUES[version] if field.what == 'join' else VALUES[field.what]
+    return '  %s: found %s; due %s%s' % (label, found_text(names, field, data), values, low)
 
 
 def of_fault(sheet, written, faulty, names, texts):
@@ -211,4 +226,5 @@ def of_fault(sheet, written, faulty, names, texts):
     starts = [field.at for field in fields if field.what == 'kind'][1:] + [len(sound)]
     read = sum(start <= place for start in starts)
     result = guard.Result(REFUSED, refusal, 0, 0, place)
-    return sheet_lines(names, sheet.outputs, sheet.rules[:read]) + [refused_line(result, texts), field_line(names, fields, data, place, len(sound))], STATUS[REFUSED]
+    lines = sheet_lines(names, sheet, read) + [refused_line(result, texts), field_line(names, sheet.version, fields, data, place, len(sound))]
+    return lines, STATUS[REFUSED]

@@ -4,7 +4,7 @@
 #include <cstdio>
 #include <cstring>
 
-static_assert(sizeof(guard_book) == 8 * GUARD_BOOK_WORDS && sizeof(guard_monitor) == 8 * GUARD_MONITOR_WORDS && sizeof(guard_answer) == 8, "the sizes that guard.h gives");
+static_assert(sizeof(guard_book) == 8 * GUARD_BOOK_WORDS && sizeof(guard_monitor) == GUARD_MONITOR_BYTES && sizeof(guard_answer) == 8, "the sizes that guard.h gives");
 
 int main()
 {

@@ -30,12 +30,16 @@ guard_answer answer(uint8_t kind, uint8_t refusal, uint16_t mask, uint32_t place
 int same_answer(guard_answer a, guard_answer b);
 uint32_t four_bytes(const uint8_t *bytes);
 
-/* ---- rules T, R and N of document 01, "Traces to settle arguments", each alone in its sheet */
+/* ---- rules T, R and N of document 01, "Traces to settle arguments", and S, A, O and W of change 1, each alone in its sheet */
 
 #define T_BYTES 36
 #define R_BYTES 34
 #define N_BYTES 34
-extern const uint8_t sheet_t[T_BYTES], sheet_r[R_BYTES], sheet_n[N_BYTES];
+#define S_BYTES 41
+#define A_BYTES 48
+#define O_BYTES 34
+#define W_BYTES 46
+extern const uint8_t sheet_t[T_BYTES], sheet_r[R_BYTES], sheet_n[N_BYTES], sheet_s[S_BYTES], sheet_a[A_BYTES], sheet_o[O_BYTES], sheet_w[W_BYTES];
 
 /* ---- the cases that cases.py writes */
 
@@ -84,8 +88,8 @@ void writable(struct pages p);
 
 /* ---- sessions */
 
-/* The guard's own layout, known to these tests alone: the low half of this word is the taken count. */
-#define PROGRESS_WORD 32
+/* The guard's own layout, known to these tests alone: where the four bytes of the taken count begin. */
+#define TAKEN_AT 512
 void set_taken(guard_monitor *monitor, uint32_t taken);
 guard_answer observe(const guard_book *book, guard_monitor *monitor, struct observation o);
 

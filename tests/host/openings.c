@@ -1,4 +1,5 @@
-/* Sheets by hand: each refusal of "Where each refusal is found" with its place, by guard_open and by guard_run. The sheets are rule R's and rule T's with one byte changed. */
+/* Sheets by hand: each refusal of "Where each refusal is found" with its place, by guard_open and by guard_run. The sheets are those of rules R, T and, in version 2, S with one byte
+ * changed. */
 #include "host.h"
 
 struct opening {
@@ -10,20 +11,34 @@ struct opening {
 
 #define T sheet_t, T_BYTES
 #define R sheet_r, R_BYTES
+#define S sheet_s, S_BYTES
 
 static const struct opening openings[] = {
     {R, 0, 0x4C, 0, 0},
     {T, 0, 0x4C, 0, 0},
     {R, 2, 0x43, 2, 0},    /* mark */
-    {R, 3, 2, 3, 3},       /* version 2 */
+    {R, 3, 0, 3, 3},       /* version 0 */
+    {R, 3, 2, 0, 0},       /* version 2, in which R is the same rule */
+    {R, 3, 3, 3, 3},       /* "refusal 3 is for versions other than 1 and 2" */
+    {S, 3, 3, 3, 3},
     {R, 4, 1, 3, 3},       /* version 257 */
+    {S, 4, 1, 3, 3},       /* version 258 */
     {R, 13, 0, 4, 13},     /* no rule */
     {R, 13, 17, 4, 13},    /* seventeen */
     {R, 14, 3, 4, 14},     /* kind */
     {R, 15, 0, 4, 15},     /* fragments in P */
     {R, 15, 9, 4, 15},
     {T, 16, 0, 4, 16},     /* fragments in Q, kind 2 */
-    {R, 22, 2, 4, 22},     /* join */
+    {R, 22, 2, 4, 22},     /* joins 2 and 3 in version 1 */
+    {R, 22, 3, 4, 22},
+    {S, 3, 1, 4, 22},
+    {S, 22, 0, 0, 0},      /* joins 0 to 3 in version 2, and no other */
+    {S, 22, 1, 0, 0},
+    {S, 22, 3, 0, 0},
+    {S, 22, 4, 4, 22},
+    {S, 22, 255, 4, 22},
+    {S, 34, 2, 0, 0},      /* a shuffled fragment of one range, in Q */
+    {S, 34, 4, 4, 34},
     {R, 23, 0, 4, 23},     /* ranges */
     {R, 23, 9, 4, 23},
     {R, 16, 9, 5, 16},     /* "a Q count of 9 in kind 1 is 5" */
@@ -33,6 +48,7 @@ static const struct opening openings[] = {
     {R, 24, 64, 6, 24},    /* range's name */
     {R, 25, 0, 7, 25},     /* u is 0 */
     {R, 27, 0, 7, 27},     /* v < u */
+    {S, 27, 0, 7, 27},     /* v = 0, in version 2 too */
     {R, 29, 0, 8, 29},     /* a name twice */
     {R, 24, 2, 8, 24},     /* trigger and range */
     {T, 31, 0, 8, 31},     /* P and Q: 8 comes before 9 */
@@ -67,7 +83,8 @@ static void check_cut_off(void)
     tell("sheets cut off", R_BYTES + 1, wrong);
 }
 
-/* The library's book and monitor are as long as the header's: opening writes every word, whatever stood there. It writes no word past them, which pages.c sees. */
+/* The library's book and monitor are as long as the header's: opening writes every word of the one and every byte of the other, whatever stood there. It writes nothing past them, which
+ * pages.c sees. */
 static void check_lengths(void)
 {
     static guard_book books[2];
@@ -81,9 +98,9 @@ static void check_lengths(void)
         guard_open(&books[i], &monitors[i], sheet_r, R_BYTES);
     for (size_t i = 0; i < GUARD_BOOK_WORDS; i++, count++)
         wrong += books[0].words[i] != books[1].words[i];
-    for (size_t i = 0; i < GUARD_MONITOR_WORDS; i++, count++)
-        wrong += monitors[0].words[i] != monitors[1].words[i];
-    tell("words that opening writes", count, wrong);
+    for (size_t i = 0; i < GUARD_MONITOR_BYTES; i++, count++)
+        wrong += monitors[0].bytes[i] != monitors[1].bytes[i];
+    tell("words of a book and bytes of a monitor that opening writes", count, wrong);
 }
 
 void check_openings(void)
@@ -91,7 +108,7 @@ void check_openings(void)
     long count = 0, wrong = 0;
     for (size_t i = 0; i < sizeof openings / sizeof *openings; i++, count++) {
         const struct opening *o = &openings[i];
-        uint8_t sheet[T_BYTES];
+        uint8_t sheet[S_BYTES];
         memcpy(sheet, o->sheet, o->length);
         sheet[o->at] = o->byte;
         if (wrong_sheet(sheet, o->length, o->refusal, o->place))

@@ -122,35 +122,36 @@ static void check_short_outputs(void)
 
 struct lent {
     struct pages books, monitors;
-    uint64_t *book, *monitor;
+    uint64_t *book;
+    uint8_t *monitor;
 };
 
 static struct lent lent_at(int at_end)
 {
     struct lent l = {pages_for(sizeof(guard_book)), pages_for(sizeof(guard_monitor)), NULL, NULL};
     l.book = (void *)edge(l.books, at_end, sizeof(guard_book));
-    l.monitor = (void *)edge(l.monitors, at_end, sizeof(guard_monitor));
+    l.monitor = edge(l.monitors, at_end, sizeof(guard_monitor));
     return l;
 }
 
 static guard_answer observe_lent(const struct lent *l, struct observation o)
 {
-    return guard_answer_of(o.clock ? guard3_clock(l->book, l->monitor, o.time) : guard3_event(l->book, l->monitor, o.name, o.time));
+    return guard_answer_of(o.clock ? guard4_clock(l->book, l->monitor, o.time) : guard4_event(l->book, l->monitor, o.name, o.time));
 }
 
 static long wrong_lent(const struct reference_case *c, const struct lent *l)
 {
     writable(l->books);
-    guard_answer opened = guard_answer_of(guard3_open(c->sheet, c->sheet_length, l->book, l->monitor));
+    guard_answer opened = guard_answer_of(guard4_open(c->sheet, c->sheet_length, l->book, l->monitor));
     long wrong = !same_answer(opened, c->opened);
     if (!opens(c))
         return wrong;
     read_only(l->books);
-    guard3_start(l->monitor);
+    guard4_start(l->monitor);
     for (size_t i = 0; c->before == 0 && i < c->count; i++)
         wrong += !same_answer(observe_lent(l, observation_of(c, i)), observation_of(c, i).due);
     read_only(l->monitors);
-    wrong += c->before == 0 && (!same_answer(guard_answer_of(guard3_verdict(l->monitor)), c->verdict) || guard3_taken(l->monitor) != c->taken);
+    wrong += c->before == 0 && (!same_answer(guard_answer_of(guard4_verdict(l->monitor)), c->verdict) || guard4_taken(l->monitor) != c->taken);
     writable(l->monitors);
     return wrong;
 }

@@ -1,10 +1,11 @@
-/* Sessions: the count's end, what a refusal leaves, names past 63, a stopped book, fresh starts, and two sessions under one book. What is due is written out from
- * document 01, "Observing". */
+/* Sessions: the count's end, what a refusal leaves, names past 63, a stopped book, the most that a range can take, fresh starts, and two sessions under one book. What is due is written
+ * out from document 01, "Observing". */
 #include "host.h"
 
 void set_taken(guard_monitor *monitor, uint32_t taken)
 {
-    monitor->words[PROGRESS_WORD] = (monitor->words[PROGRESS_WORD] & ~(uint64_t)ALL) | taken;
+    for (int i = 0; i < 4; i++)
+        monitor->bytes[TAKEN_AT + i] = (uint8_t)(taken >> 8 * i);
 }
 
 guard_answer observe(const guard_book *book, guard_monitor *monitor, struct observation o)
@@ -127,6 +128,47 @@ static void check_stopped(void)
     tell("observations of a stopped book", steps, wrong);
 }
 
+/* One name so many times, and what the last of them is answered. */
+static guard_answer again(const guard_book *book, guard_monitor *monitor, uint32_t name, uint32_t times)
+{
+    guard_answer a = guard_verdict(monitor);
+    for (uint32_t i = 0; i < times; i++, steps++)
+        a = guard_event(book, monitor, name, 0);
+    return a;
+}
+
+/* A range's count at its largest v, 65,535, in a row and, with each other join, by halves with the sibling's between them: the last is taken, one more breaks the rule, and below u the
+ * trigger does. The counts of the round before are forgotten. */
+static void check_most(void)
+{
+    uint8_t sheet[O_BYTES];
+    guard_book book;
+    guard_monitor monitor, full;
+    long wrong = steps = 0;
+    memcpy(sheet, sheet_o, O_BYTES);
+    memset(sheet + 25, 0xFF, 4), memset(sheet + 30, 0xFF, 4); /* 0[65535,65535] and 1[65535,65535] */
+    for (uint8_t join = 0; join < 4; join++) {
+        uint32_t half = join < 2 ? 65535 : 32768;
+        sheet[22] = join;
+        guard_open(&book, &monitor, sheet, O_BYTES);
+        for (int round = 0; round < 2; round++) {
+            for (uint32_t taken = 0; taken < 65535; taken += half)
+                for (uint32_t name = 0; name < 2; name++) {
+                    full = monitor;
+                    wrong += !same_answer(again(&book, &monitor, name, taken + half < 65535 ? half : 65535 - taken), open_rule());
+                }
+            guard_monitor short_of_one = full, one_more = monitor;
+            again(&book, &short_of_one, 1, join < 2 ? 65534 : 32766);
+            wrong += again(&book, &short_of_one, 2, 1).answer != GUARD_BROKEN;
+            wrong += again(&book, &one_more, 1, 1).answer != GUARD_BROKEN;
+            one_more = monitor;
+            wrong += again(&book, &one_more, 0, 1).answer != GUARD_BROKEN;
+            wrong += !same_answer(again(&book, &monitor, 2, 1), whole());
+        }
+    }
+    tell("65,535 of a name, and one more or fewer, with each join", steps, wrong);
+}
+
 /* guard_start gives what guard_open gives, whatever stood there: by the session's answers and by every byte, which are the same for every book. */
 static void check_start(void)
 {
@@ -184,6 +226,7 @@ void check_sessions(void)
     check_last_break();
     check_refused();
     check_stopped();
+    check_most();
     check_start();
     check_two();
 }

@@ -71,6 +71,13 @@ const uint8_t sheet_t[T_BYTES] = {0x4C, 0x4F, 0x42, 1, 0, 2, 0, 0, 0, 0, 0, 0, 0
 const uint8_t sheet_r[R_BYTES] = {0x4C, 0x4F, 0x42, 1, 0, 0, 0, 0, 0, 0, 0, 0, 0, 1, 1, 1, 0, 2, 0, 0, 0, 0, 0, 2, 0, 1, 0, 1, 0, 1, 1, 0, 1, 0};
 const uint8_t sheet_n[N_BYTES] = {0x4C, 0x4F, 0x42, 1, 0, 0, 0, 0, 0, 0, 0, 0, 0, 1, 0, 1, 0, 2, 0, 0, 0, 0, 1, 2, 0, 1, 0, 1, 0, 1, 1, 0, 1, 0};
 
+/* In version 2. S: kind 2, P = {0[1,2], 1[1,1]} all shuffled, Q = 9[1,2], t = 10. A: P = 3[1,1] then {0[1,1], 1[2,2]} any, Q and t as in S. O: kind 1, {0[2,3], 1[1,2]} any
+ * shuffled before 2. W: kind 1, {0[1,2], 1[2,2]} all shuffled, then {3[1,1], 4[2,2]} any shuffled, before 2. */
+const uint8_t sheet_s[S_BYTES] = {0x4C, 0x4F, 0x42, 2, 0, 0, 2, 0, 0, 0, 0, 0, 0, 1, 2, 1, 1, 0, 10, 0, 0, 0, 2, 2, 0, 1, 0, 2, 0, 1, 1, 0, 1, 0, 0, 1, 9, 1, 0, 2, 0};
+const uint8_t sheet_a[A_BYTES] = {0x4C, 0x4F, 0x42, 2, 0, 0, 2, 0, 0, 0, 0, 0, 0, 1, 2, 2, 1, 0, 10, 0, 0, 0, 0, 1, 3, 1, 0, 1, 0, 1, 2, 0, 1, 0, 1, 0, 1, 2, 0, 2, 0, 0, 1, 9, 1, 0, 2, 0};
+const uint8_t sheet_w[W_BYTES] = {0x4C, 0x4F, 0x42, 2, 0, 0, 0, 0, 0, 0, 0, 0, 0, 1, 1, 2, 0, 2, 0, 0, 0, 0, 2, 2, 0, 1, 0, 2, 0, 1, 2, 0, 2, 0, 3, 2, 3, 1, 0, 1, 0, 4, 2, 0, 2, 0};
+const uint8_t sheet_o[O_BYTES] = {0x4C, 0x4F, 0x42, 2, 0, 0, 0, 0, 0, 0, 0, 0, 0, 1, 1, 1, 0, 2, 0, 0, 0, 0, 3, 2, 0, 2, 0, 3, 0, 1, 1, 0, 2, 0};
+
 /* ---- the call by hand */
 
 /* trace.lot of the printed case: 1@5 0@5 2@9 2@10 */
@@ -149,7 +156,7 @@ static void check_outputs(void)
 /* Numbers 1 to 15 have a text each, of one line; no other number has. A word of each stands here by hand, so that no text has slipped to its neighbour. */
 static void check_texts(void)
 {
-    static const char *const words[15] = {"cut off",       "mark",      "version",    "kind or join", "not 0", "above 63",      "below u", "already in the rule",
+    static const char *const words[15] = {"cut off",       "mark",      "nor 2",      "0 to 3", "not 0", "above 63",      "below u", "already in the rule",
                                           "Q is an input", "left over", "the latest", "name is 64",   "taken", "multiple of 5", "under 12"};
     long count = 0, wrong = 0;
     for (uint32_t n = 1; n <= 15; n++, count++) {

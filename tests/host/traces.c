@@ -1,5 +1,5 @@
-/* Document 01, "Traces to settle arguments", and its printed case: each answer of a session, and the five numbers of the call, written out by hand; and the call with each
- * budget, held to the session. */
+/* Document 01, "Traces to settle arguments", and its printed case, and the traces of change 1: each answer of a session, and the five numbers of the call, written out by hand; and the
+ * call with each budget, held to the session. */
 #include "host.h"
 
 /* observations: "0@5" is name 0 at time 5, "c@5" a clock reading. due: w whole, o open, b broken with its k, r refused with its number; the only rule is rule 0, so a mask
@@ -14,6 +14,10 @@ struct trace {
 #define T sheet_t, T_BYTES
 #define R sheet_r, R_BYTES
 #define N sheet_n, N_BYTES
+#define S sheet_s, S_BYTES
+#define A sheet_a, A_BYTES
+#define O sheet_o, O_BYTES
+#define W sheet_w, W_BYTES
 
 static const struct trace traces[] = {
     {T, "", "", {0, 0, 0, 0, 0}},
@@ -32,6 +36,22 @@ static const struct trace traces[] = {
     {N, "0@0 2@0 2@0 1@0", "o w w w", {0, 0, 0, 4, 0}},
     {N, "2@0", "b1", {2, 0, 1, 1, 1}},
     {R, "1@5 0@5 2@9 2@10", "o o w b4", {2, 0, 1, 4, 4}},
+    {S, "0@0 1@0 0@0 9@10", "o o o w", {0, 0, 0, 4, 0}},
+    {S, "0@0 1@0 1@0", "o o b3", {2, 0, 1, 3, 3}},
+    {S, "0@0 0@0 9@0", "o o b3", {2, 0, 1, 3, 3}},
+    {S, "0@0 1@0 c@99", "o o o", {1, 0, 1, 3, 0}},
+    {S, "0@0 1@0 0@0 c@99", "o o o b4", {2, 0, 1, 4, 4}},
+    {A, "3@0 0@50 1@60 c@70", "o o o o", {1, 0, 1, 4, 0}},
+    {A, "3@0 1@50 c@999 1@999", "o o o o", {1, 0, 1, 4, 0}},
+    {O, "0@0 1@0 1@0", "o o o", {1, 0, 1, 3, 0}},
+    {O, "0@0 1@0 2@0", "o o b3", {2, 0, 1, 3, 3}},
+    {O, "0@0 1@0 0@0 2@0", "o o o w", {0, 0, 0, 4, 0}},
+    {O, "1@0 2@0", "o w", {0, 0, 0, 2, 0}},
+    {O, "2@0", "b1", {2, 0, 1, 1, 1}},
+    {O, "1@0 0@0 1@0 1@0", "o o o b4", {2, 0, 1, 4, 4}},
+    {O, "1@0 1@0 2@0 1@0 1@0 2@0", "o o w o o w", {0, 0, 0, 6, 0}},
+    {W, "0@0 1@0 0@0 1@0 4@0 3@0 4@0 2@0", "o o o o o o o w", {0, 0, 0, 8, 0}},
+    {W, "0@0 1@0 0@0 1@0 4@0 3@0 2@0", "o o o o o o b7", {2, 0, 1, 7, 7}},
 };
 
 #define MOST 8 /* observations of a trace */
@@ -140,7 +160,7 @@ void check_traces(void)
             wrong += differs(traces[i].observations, (long)i);
         play((long)i, &traces[i], os, n, log, &counts);
     }
-    tell("traces of document 01 by log", by_log, wrong);
-    tell("traces of document 01 live, answers", counts.live, counts.wrong_live);
-    tell("traces of document 01, each budget as live", counts.budgets, counts.wrong_budgets);
+    tell("traces of document 01 and of change 1 by log", by_log, wrong);
+    tell("traces of document 01 and of change 1 live, answers", counts.live, counts.wrong_live);
+    tell("traces of document 01 and of change 1, each budget as live", counts.budgets, counts.wrong_budgets);
 }

@@ -1,6 +1,6 @@
 #!/usr/bin/env python3
 """Example sheets, and what is due for each: the answer of the second reading in reference/, which is written from document 01 ("The sheet", "Where each refusal is
-found") and from nothing else of this repository.
+found") and change 1 of document 02 and from nothing else of this repository.
 
   python3 tests/sheets/make.py          write crates/sheets/stdin (the sheets) and crates/sheets/stdout (a line for each: answer, number, place)
   python3 tests/sheets/make.py --check  say whether those two files are what would be written, and print how many sheets meet each refusal
@@ -16,7 +16,7 @@ import sys
 HERE = os.path.dirname(os.path.abspath(__file__))
 sys.path[:0] = [os.path.join(HERE, ".."), os.path.join(HERE, "..", "..", "reference")]
 
-from guard import Refused, read_sheet
+from guard import LAST_JOIN, Refused, read_sheet
 from stored import keep
 
 # ---------------------------------------------------------------- what is due
@@ -51,20 +51,20 @@ def sheet(rules, outputs=0, mark=b"LOB", version=1, count=None):
     return mark + struct.pack("<HQB", version, outputs, len(rules) if count is None else count) + b"".join(rules)
 
 
-def names(first, sizes):
+def names(first, sizes, joins):
     """Fragments of so many ranges, named from first on."""
     made = []
     for size in sizes:
-        made.append(fragment([a_range(n, 1 + n % 3, 65535 - n) for n in range(first, first + size)], join=len(made) % 2))
+        made.append(fragment([a_range(n, 1 + n % 3, 65535 - n) for n in range(first, first + size)], join=len(made) % joins))
         first += size
     return made
 
 
-def full(p_sizes, q_sizes):
-    """Sixteen timed rules, of 64 names and 16 fragments each: 5,774 bytes."""
-    split = sum(p_sizes)
+def full(p_sizes, q_sizes, version=1):
+    """Sixteen timed rules, of 64 names and 16 fragments each, with every join of the version: 5,774 bytes."""
+    split, joins = sum(p_sizes), LAST_JOIN[version] + 1
     outputs = sum(1 << n for n in range(split, 64))
-    return sheet([rule(2, names(0, p_sizes), names(split, q_sizes), t=4294967295 - k) for k in range(16)], outputs)
+    return sheet([rule(2, names(0, p_sizes, joins), names(split, q_sizes, joins), t=4294967295 - k) for k in range(16)], outputs, version=version)
 
 
 PRINTED = bytes.fromhex("4C4F42 0100 0000000000000000 01 01 01 00 02 00000000 00 02 00 0100 0100 01 0100 0100".replace(" ", ""))
@@ -81,10 +81,16 @@ def examples():
     outputs = 1 << 40 | 1 << 63
     mixed = sheet([rule(0, [pair], trigger=2), rule(1, [pair, one], trigger=9), rule(2, [one, pair], [answer], t=10)], outputs)
     yield 1, mixed
+    # the same in version 2, with shuffled fragments, of one range too, in P and in Q, first and last
+    shuffled = fragment([a_range(0), a_range(1, 2, 3)], join=2)
+    one_of_two = fragment([a_range(3), a_range(4, 7, 7)], join=3)
+    in_q = fragment([a_range(40, 1, 65535), a_range(63)], join=2)
+    yield 1, sheet([rule(0, [one_of_two], trigger=2), rule(1, [pair, fragment([a_range(5)], join=3)], trigger=9),
+                    rule(2, [one_of_two, shuffled], [in_q, fragment([a_range(41)], join=2)], t=10)], outputs | 1 << 41, version=2)
     yield 1, FULL
-    # 5,774 bytes in other divisions; one byte more, one field wrong
+    # 5,774 bytes in other divisions and in version 2; one byte more, one field wrong
     assert len(FULL) == 5774
-    for other in (full([8, 8, 8, 8, 1, 1, 1, 1], [8, 8, 2, 2, 2, 2, 2, 2]), full([1] * 8, [7] * 8)):
+    for other in (full([8, 8, 8, 8, 1, 1, 1, 1], [8, 8, 2, 2, 2, 2, 2, 2], 2), full([1] * 8, [7] * 8)):
         assert len(other) == 5774, len(other)
         yield 0, other
     yield 0, FULL + b"\0"
@@ -94,8 +100,9 @@ def examples():
         yield 0, sheet([rule(1, [pair], trigger=2)], mark=mark)
     yield 0, b"LOA"
     yield 0, b"XX"
-    for version in (0, 2, 256, 65535):
+    for version in (0, 1, 2, 3, 4, 255, 256, 257, 258, 512, 513, 65535):
         yield 0, sheet([rule(1, [pair], trigger=2)], version=version)
+        yield 0, sheet([rule(1, [shuffled], trigger=2)], version=version)
     # 4: count, kind, join
     good = rule(1, [pair], trigger=2)
     for count in (0, 2, 17, 255):
@@ -109,9 +116,15 @@ def examples():
             yield 0, sheet([rule(kind, [pair], in_p=in_p)])
     for in_q in (0, 9, 255):
         yield 0, sheet([rule(2, [pair], [answer], in_q=in_q)], outputs)
-    for join in (2, 255):
-        yield 0, sheet([rule(1, [fragment([a_range(0)], join=join)], trigger=2)])
-        yield 0, sheet([rule(2, [pair], [fragment([a_range(40)], join=join)])], outputs)
+    for version in LAST_JOIN:
+        for join in (1, 2, 3, 4, 5, 128, 254, 255):
+            yield 0, sheet([rule(1, [fragment([a_range(0)], join=join)], trigger=2)], version=version)
+            yield 0, sheet([rule(2, [pair], [fragment([a_range(40)], join=join)])], outputs, version=version)
+    # the join of every fragment is looked at, and before its count
+    yield 0, sheet([rule(1, [shuffled, one_of_two, fragment([a_range(9)], join=4)], trigger=2)], version=2)
+    yield 0, sheet([rule(1, [pair, fragment([a_range(9)], join=3)], trigger=2)])
+    yield 0, sheet([rule(1, [fragment([a_range(0)], join=4, count=9)], trigger=2)], version=2)
+    yield 0, sheet([rule(1, [fragment([a_range(0)], join=3, count=9)], trigger=2)], version=2)
     for count in (0, 9, 255):
         yield 0, sheet([rule(1, [fragment([a_range(0)], count=count)], trigger=2)])
         yield 0, sheet([rule(2, [pair], [fragment([a_range(40)], count=count)])], outputs)
@@ -138,6 +151,7 @@ def examples():
     for u, v in ((0, 0), (0, 1), (1, 0), (2, 1), (65535, 65534), (65535, 65535), (256, 1), (1, 256)):
         yield 0, sheet([rule(0, [fragment([a_range(0, u, v)])], trigger=2)])
         yield 0, sheet([rule(2, [pair], [fragment([a_range(40), a_range(63, u, v)])])], outputs)
+        yield 0, sheet([rule(0, [fragment([a_range(0, u, v)], join=2)], trigger=2)], version=2)
     # 8: in one fragment, in two, in P and Q, trigger and range
     yield 0, sheet([rule(1, [fragment([a_range(0), a_range(0)])], trigger=2)])
     yield 0, sheet([rule(1, [fragment([a_range(0)]), fragment([a_range(1), a_range(0)])], trigger=2)])
@@ -161,15 +175,15 @@ def examples():
         yield 0, PRINTED + more
     # random sheets, and one byte of them changed
     rng = random.Random(2016)
-    for _ in range(120):
-        data = random_sheet(rng)
+    for number in range(100):
+        data = random_sheet(rng, 1 + number % 2)
         yield 0, data
         for _ in range(2):
             at = rng.randrange(len(data))
-            yield 0, data[:at] + bytes([rng.choice([0, 1, 2, 8, 9, 63, 64, 255, data[at] ^ 1, rng.randrange(256)])]) + data[at + 1:]
+            yield 0, data[:at] + bytes([rng.choice([0, 1, 2, 3, 4, 8, 9, 63, 64, 255, data[at] ^ 1, rng.randrange(256)])]) + data[at + 1:]
 
 
-def random_sheet(rng):
+def random_sheet(rng, version):
     """A sheet that is right, or wrong only in a name that comes twice or goes the wrong way."""
     outputs = rng.getrandbits(64)
     rules = []
@@ -185,7 +199,7 @@ def random_sheet(rng):
         def some(source, most):
             made = []
             for _ in range(rng.randint(1, most)):
-                made.append(fragment([random_range(rng, source, pool) for _ in range(rng.randint(1, 3))], join=rng.randrange(2)))
+                made.append(fragment([random_range(rng, source, pool) for _ in range(rng.randint(1, 3))], join=rng.randrange(LAST_JOIN[version] + 1)))
             return made
 
         trigger = 0
@@ -197,7 +211,7 @@ def random_sheet(rng):
         p = some(pool, 3)
         q = some([n for n in q_pool if n in pool] or q_pool or [0], 2) if kind == 2 else []
         rules.append(rule(kind, p, q, trigger, rng.choice([0, 5, 4294967295]) if kind == 2 else 0))
-    return sheet(rules, outputs)
+    return sheet(rules, outputs, version=version)
 
 
 def random_range(rng, source, pool):

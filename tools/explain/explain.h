@@ -10,6 +10,9 @@
 #define RANGES 8    /* of a fragment, at most */
 #define NAMES 64
 #define TIMED 2     /* the kind of a timed implication */
+#define VERSIONS 2  /* of sheets: 1 and 2 */
+#define ANY 1       /* a join's bits: some of the ranges are enough, */
+#define SHUFFLED 2  /* and their blocks are mixed, from version 2 on */
 #define CLOCK 0xFFu /* a record's name where it is a clock reading */
 
 struct bytes {
@@ -27,7 +30,7 @@ struct range {
 };
 
 struct fragment {
-    uint8_t join, count;
+    uint8_t join, count; /* join: 0 all, 1 any, 2 all shuffled, 3 any shuffled */
     struct range ranges[RANGES];
 };
 
@@ -45,11 +48,12 @@ struct field {
     enum what what;
     size_t at, size, left; /* its offset, its length, and how many bytes the sheet has from there on */
     uint64_t value;        /* of the bytes that are there */
-    unsigned rule, kind, in_q, fragment, fragments, range, ranges;
+    unsigned version, rule, kind, in_q, fragment, fragments, range, ranges;
     unsigned u; /* before a v */
 };
 
 struct sheet {
+    unsigned version; /* 0 until it is read */
     uint64_t outputs;
     unsigned count, read; /* rules by the sheet's count, and those that were read to their end */
     struct rule rules[RULES];

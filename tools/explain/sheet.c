@@ -50,7 +50,7 @@ static void read_range(struct reader *r, struct range *range)
 
 static void read_fragment(struct reader *r, struct fragment *fragment)
 {
-    fragment->join = take_within(r, JOIN, 0, 1);
+    fragment->join = take_within(r, JOIN, 0, r->field.version == 1 ? ANY : SHUFFLED + ANY);
     fragment->count = take_within(r, RANGE_COUNT, 1, RANGES);
     for (unsigned i = 0; i < fragment->count && !r->ended; i++) {
         r->field.range = i + 1, r->field.ranges = fragment->count;
@@ -82,10 +82,11 @@ static void read_rule(struct reader *r, struct rule *rule)
 void read_sheet(struct sheet *sheet, struct bytes file, size_t place)
 {
     static const struct sheet nothing;
-    struct reader r = {file.at, file.length, 0, place, {MARK, 0, 0, 0, 0, 0, 0, 0, 0, 0, 0, 0, 0}, 0};
+    struct reader r = {file.at, file.length, 0, place, {MARK, 0, 0, 0, 0, 0, 0, 0, 0, 0, 0, 0, 0, 0}, 0};
     *sheet = nothing;
     take(&r, MARK, 3);
-    r.ended |= take(&r, VERSION, 2) != 1;
+    r.field.version = sheet->version = (unsigned)take(&r, VERSION, 2);
+    r.ended |= sheet->version < 1 || sheet->version > VERSIONS;
     sheet->outputs = take(&r, OUTPUTS, 8);
     sheet->count = take_within(&r, RULE_COUNT, 1, RULES);
     for (unsigned i = 0; i < sheet->count && !r.ended; i++) {

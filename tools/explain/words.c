@@ -33,16 +33,16 @@ static void print_range(const struct names *names, const struct range *range)
         printf("[%u,%u]", (unsigned)range->u, (unsigned)range->v);
 }
 
-/* A range alone that is joined all has no braces. Joined any it means the same, and has them since the sheet's byte is another. */
+/* A range alone that is joined all has no braces. Joined otherwise it means the same, and has them since the sheet's byte is another. */
 static void print_fragment(const struct names *names, const struct fragment *fragment)
 {
     int alone = fragment->join == 0 && fragment->count == 1;
-    printf("%s", alone ? "" : fragment->join == 0 ? "all{" : "any{");
+    printf("%s", alone ? "" : fragment->join & ANY ? "any{" : "all{");
     for (unsigned i = 0; i < fragment->count; i++) {
         printf("%s", i > 0 ? ", " : "");
         print_range(names, &fragment->ranges[i]);
     }
-    printf("%s", alone ? "" : "}");
+    printf("%s%s", alone ? "" : "}", fragment->join & SHUFFLED ? " shuffled" : "");
 }
 
 static void print_ordering(const struct names *names, const struct fragment *fragments, unsigned count)
@@ -91,12 +91,27 @@ static void print_directions(const struct names *names, const struct sheet *shee
         print_set("of the other direction in the file of names", names, other);
 }
 
+static int has_join(const struct sheet *sheet, unsigned join)
+{
+    for (unsigned i = 0; i < sheet->read; i++)
+        for (unsigned j = 0; j < sheet->rules[i].p_count + sheet->rules[i].q_count; j++)
+            if (sheet->rules[i].fragments[j].join == join)
+                return 1;
+    return 0;
+}
+
 void print_sheet(const struct names *names, const struct sheet *sheet)
 {
-    if (sheet->read > 0)
-        print_directions(names, sheet);
+    if (sheet->read == 0)
+        return;
+    printf("version: %u\n", sheet->version);
+    print_directions(names, sheet);
     for (unsigned i = 0; i < sheet->read; i++)
         print_rule(names, sheet, i);
+    if (has_join(sheet, SHUFFLED))
+        printf("all{..} shuffled: every name, mixed in any way; its bounds are for how often it comes in all\n");
+    if (has_join(sheet, SHUFFLED + ANY))
+        printf("any{..} shuffled: at least one name, mixed in any way; the bounds of each that comes are for how often it comes in all\n");
 }
 
 /* ---- fields */
@@ -134,7 +149,7 @@ static const char *due(const struct field *f)
     case MARK:
         return "4C 4F 42";
     case VERSION:
-        return "1";
+        return "1 or 2";
     case RULE_COUNT:
         return "1 to 16";
     case KIND:
@@ -146,7 +161,7 @@ static const char *due(const struct field *f)
     case T:
         return timed ? "any number" : "0 in kinds 0 and 1";
     case JOIN:
-        return "0 or 1";
+        return f->version == 1 ? "0 or 1 in version 1; 2 and 3, shuffled, are of version 2" : "0 to 3 in version 2";
     case P_COUNT:
     case RANGE_COUNT:
         return "1 to 8";

@@ -1,4 +1,4 @@
--- What the code leaves in a monitor's words, case by case, is what one observation makes of the monitor that they hold.
+-- What the code leaves in a monitor's memory, case by case, is what one observation makes of the monitor that it holds.
 -- Assumes nothing.
 use mathlib.Core.Path.{_≡_, refl, sym, _∙_}
 use mathlib.Core.List.{List}

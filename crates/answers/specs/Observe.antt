@@ -1,4 +1,4 @@
--- One observation of a book's monitor, over the book's table: what it makes of the monitor, and what that leaves in the monitor's words.
+-- One observation of a book's monitor, over the book's table: what it makes of the monitor, and what that leaves in the monitor's memory.
 -- Assumes nothing.
 use mathlib.Core.Path.{_≡_}
 use mathlib.Core.Bool.{Bool, true, false, cond}
@@ -48,14 +48,14 @@ lookedOf table m (Clock time) = takenOf table m 0 0 time
 unfoldable pub observeOf : List ℕ → Held → Observation → Observed
 observeOf table m o = cond (eqb (m .verdict) 2) (record { monitor = m; answer = Broken (m .taken) (m .mask) }) (lookedOf table m o)
 
--- ---- in a monitor's words
+-- ---- in a monitor's memory
 
--- the words hold the monitor of a pair, and the answer is its other half
+-- the bytes hold the monitor of a pair, and the answer is its other half
 pub record Gives (o : Observed) (a : Answer) (after : List ℕ) : Type 0 where
   pub holds : Holds after (o .monitor)
   pub answer : a ≡ o .answer
 
--- A refused observation leaves every word, and so does any observation after a break; one that is taken leaves 0 in the bits that hold nothing
+-- A refused observation leaves every byte, and so does any observation after a break; one that is taken leaves 0 in the bytes that hold nothing
 pub record Leaves (table before : List ℕ) (o : Observation) (a : Answer) (after : List ℕ) : Type 0 where
   pub gives : Fits before → Gives (observeOf table (heldBy before) o) a after
   pub unchanged : valuesOf a .answer ≡ 3 → after ≡ before

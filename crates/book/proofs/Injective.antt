@@ -1,15 +1,18 @@
 -- A book tells its sheet: two well-formed sheets with the same book are the same. All that a sheet says is looked up in its book, and so is the same in both.
 -- Assumes nothing.
-use mathlib.Core.Path.{_≡_, refl, ap, ap₂, sym, subst, _∙_}
+use mathlib.Core.Path.{_≡_, ap, ap₂, sym, subst, _∙_}
+use mathlib.Core.Logic.{_≢_}
 use mathlib.Core.List.{List}
 use Prim.Native.Nat.{ℕ, _<_}
 use native.Mathlib.Omega.{arith}
 use lib.ListN.{length, getD, take, drop}
 use lib.Seq.{ext-getD, take-append-seam, drop-append-seam}
-use Rattle.pattern.specs.Meaning.{Join, all, any, Fragment, Kind, once, repeated, timed, Rule, WellFormedFragment, WellFormed}
+use Rattle.pattern.specs.Meaning.{Join, Fragment, Kind, once, repeated, timed, Rule, WellFormedFragment, WellFormed}
 use Rattle.pattern.specs.Model.{lastFragments, roundOf, fragmentAt, noFragment}
 use Rattle.layout.specs.Layout.{Sheet, joinNumber, kindNumber, inQ, triggerOf, timeOf, headerOf, WellFormedSheet}
+use Rattle.layout.specs.Reading.{joinOf}
 use Rattle.layout.specs.Pages.{headerWord, noRange, noRule, ruleAt, rangeAt}
+use Rattle.layout.proofs.Parts.{join-of}
 use Rattle.layout.proofs.PageLaws.{round-formed, each-at}
 use Rattle.layout.proofs.Accepted.{rule-formed}
 use Rattle.tables.specs.Words.{kindIn, countPIn, countQIn, triggerIn, timeIn}
@@ -22,10 +25,7 @@ use Rattle.book.specs.declared.Book.{Book}
 use Rattle.book.proofs.Lookups.{looks}
 
 same-join : (a b : Join) → joinNumber a ≡ joinNumber b → a ≡ b
-same-join all all e = refl
-same-join any any e = refl
-same-join all any e = absurd (omega (arith, e))
-same-join any all e = absurd (omega (arith, e))
+same-join a b e = sym (join-of a) ∙ ap joinOf e ∙ join-of b
 
 -- kinds with the same number, trigger and time, and the same fragments after P
 same-kind : (a b : Kind) → kindNumber a ≡ kindNumber b → triggerOf a ≡ triggerOf b → timeOf a ≡ timeOf b → lastFragments a ≡ lastFragments b → a ≡ b
@@ -121,3 +121,7 @@ module _ (S T : Sheet) (ws : WellFormedSheet S) (wt : WellFormedSheet T) (b : Bo
 -- `bookOf` is injective on well-formed sheets
 pub same-book-same-sheet : (S T : Sheet) → WellFormedSheet S → WellFormedSheet T → bookOf S ≡ bookOf T → S ≡ T
 same-book-same-sheet S T v w e = one-sheet S T v w (bookOf T) (subst (Looks S) e (looks S v)) (looks T w)
+
+-- so two sheets that differ in the version alone have two books
+pub other-version-other-book : (S T : Sheet) → WellFormedSheet S → WellFormedSheet T → S .version ≢ T .version → bookOf S ≢ bookOf T
+other-version-other-book S T v w differ e = differ (ap (λ (X : Sheet). X .version) (same-book-same-sheet S T v w e))

@@ -137,9 +137,10 @@ module _ (S : Sheet) (formed : WellFormedSheet S) where
 
   -- version and outputs stand behind all else
   early : (j : ℕ) → j < versionAt → getD table j 0 ≡ getD rules j 0
-  early j h =
-      getD-set-other (set rules versionAt (S .version)) outputsAt j (S .outputs) 0 (λ e. omega (arith, h, e))
-      ∙ getD-set-other rules versionAt j (S .version) 0 (λ e. omega (arith, h, e))
+  early j h = getD-set-other (set rules versionAt _) outputsAt j _ 0 (λ e. omega (arith, h, e)) ∙ getD-set-other rules versionAt j _ 0 (λ e. omega (arith, h, e))
+
+  last : (version : ℕ) → outputsAt < length (set rules versionAt version)
+  last version = omega (arith, length-set rules versionAt version, rules-length)
 
   none : (r : ℕ) → length (S .rules) ≤ r → r < 16 → getD table (headAt r) 0 ≡ 0
   unfolding rulesOf
@@ -196,9 +197,8 @@ module _ (S : Sheet) (formed : WellFormedSheet S) where
   -- the book of a well-formed sheet is the sheet, looked up
   pub looks : Looks S (bookOf S)
   looks = record {
-    version′ = getD-set-other (set rules versionAt (S .version)) outputsAt versionAt (S .outputs) 0 (λ e. omega arith)
-        ∙ getD-set-same rules versionAt (S .version) 0 (omega (arith, rules-length));
-    outputs = getD-set-same (set rules versionAt (S .version)) outputsAt (S .outputs) 0 (omega (arith, length-set rules versionAt (S .version), rules-length));
+    version′ = getD-set-other (set rules versionAt _) outputsAt versionAt _ 0 (λ e. omega arith) ∙ getD-set-same rules versionAt _ 0 (omega (arith, rules-length));
+    outputs = getD-set-same (set rules versionAt _) outputsAt _ 0 (last _);
     head = head;
     none = none;
     table = holds-rules;

@@ -5,9 +5,9 @@ use Prim.Native.Nat.{ℕ, _<_}
 use native.Mathlib.Omega.{arith}
 use lib.Dec.{eqb}
 use Rattle.bits.proofs.BitLaws.{flag-small}
-use Rattle.tables.specs.Words.{roundIn, countIn}
+use Rattle.tables.specs.Words.{roundIn}
 use Rattle.tables.proofs.Bounds.{round-small}
-use Rattle.cells.specs.Making.{beforeFrom, lastFrom, freesFrom, orderFrom, looseFrom, fragmentFrom, inPFrom, inQFrom, endsPFrom, clockFrom, sharedCell}
+use Rattle.cells.specs.Making.{beforeFrom, lastFrom, freesFrom, orderFrom, fragmentFrom, inPFrom, inQFrom, endsPFrom, clockFrom, sharedCell}
 
 -- either of two small numbers is small
 pub either : (b : Bool) {k x y : ℕ} → x < k → y < k → cond b x y < k
@@ -18,10 +18,6 @@ pub before-small : (head n : ℕ) → n < roundIn head → beforeFrom head n < 1
 unfolding beforeFrom
 before-small head n h = either (eqb n 0) (omega (arith, round-small head)) (omega (arith, round-small head))
 
-pub loose-small : (word : ℕ) → looseFrom word < 2
-unfolding looseFrom
-loose-small word = either (eqb (countIn word) _) (omega arith) (omega arith)
-
 pub shared-small : (head word n : ℕ) → n < roundIn head → sharedCell head word n < 4194304
 unfolding sharedCell orderFrom fragmentFrom clockFrom
 shared-small head word n h =
@@ -31,7 +27,6 @@ shared-small head word n h =
       before-small head n h,
       flag-small (lastFrom head n),
       flag-small (freesFrom head n),
-      loose-small word,
       flag-small (inPFrom head n),
       flag-small (inQFrom head n),
       flag-small (endsPFrom head n),

@@ -1,23 +1,23 @@
 -- The number that is made of a well-formed rule's words is the cell of the rule's range: each field is read off it, and says what the rule does.
 -- Assumes nothing.
-use mathlib.Core.Path.{_≡_, refl, _∙_, ap₂}
-use mathlib.Core.Bool.{cond}
-use Prim.Native.Nat.{ℕ, _<_}
+use mathlib.Core.Path.{_≡_, refl, _∙_}
+use Prim.Native.Nat.{ℕ, _/_, _<_}
 use native.Mathlib.Omega.{arith}
 use lib.Dec.{eqb}
 use lib.ListN.{length}
+use Rattle.bits.specs.Bits.{flag}
 use Rattle.bits.proofs.BitLaws.{flag-small, flag-says}
-use Rattle.pattern.specs.Meaning.{Join, all, any, Fragment, Kind, once, repeated, timed, Rule, WellFormedRange, WellFormedFragment, WellFormed}
+use Rattle.pattern.specs.Meaning.{Join, all, any, allShuffled, anyShuffled, shuffled, Fragment, Kind, once, repeated, timed, Rule, WellFormedRange, WellFormedFragment, WellFormed}
 use Rattle.pattern.specs.Model.{roundOf, isOnce, isLast, fragmentAt, noFragment}
 use Rattle.layout.specs.Layout.{headerOf, joinNumber, kindNumber}
 use Rattle.layout.specs.Pages.{headerWord, fragmentWord, rangeWord, noRange, rangeAt}
 use Rattle.layout.proofs.PageLaws.{round-formed, round-few, each-at}
-use Rattle.tables.specs.Cells.{isTimed, frees, isInP, isInQ, endsP, preceding, looseOf, Cell}
-use Rattle.tables.proofs.WordLaws.{join-in, count-in, low-in, high-in}
-use Rattle.cells.specs.Making.{beforeFrom, lastFrom, freesFrom, orderFrom, looseFrom, fragmentFrom, inPFrom, inQFrom, endsPFrom, clockFrom, sharedCell, cellWith}
+use Rattle.tables.specs.Cells.{isTimed, frees, isInP, isInQ, endsP, preceding, Cell}
+use Rattle.tables.proofs.WordLaws.{join-few, join-in, count-in, low-in, high-in}
+use Rattle.cells.specs.Making.{beforeFrom, lastFrom, freesFrom, orderFrom, fragmentFrom, inPFrom, inQFrom, endsPFrom, clockFrom, sharedCell, cellWith}
 use Rattle.cells.specs.Heads.{LooksHead}
 use Rattle.cells.proofs.HeadLaws.{head-round, looks-head}
-use Rattle.cells.proofs.CellBounds.{before-small, loose-small}
+use Rattle.cells.proofs.CellBounds.{before-small}
 
 kind-once : (K : Kind) → eqb (kindNumber K) 0 ≡ isOnce K
 kind-once (once i) = refl
@@ -29,13 +29,12 @@ kind-timed (once i) = refl
 kind-timed (repeated i) = refl
 kind-timed (timed q t) = refl
 
-join-one : (j : Join) → joinNumber j < 2
-join-one all = omega arith
-join-one any = omega arith
-
-loose-is : (f : Fragment) → WellFormedFragment f → looseFrom (fragmentWord f) ≡ looseOf f
-unfolding looseFrom looseOf
-loose-is f w = ap₂ (λ (n k : ℕ). cond (eqb n 1) 1 k) (count-in f w) (omega (arith, join-in f, join-one (f .join)))
+-- a join's number says in its second digit whether blocks are shuffled
+join-shuffled : (j : Join) → joinNumber j / 2 ≡ flag (shuffled j)
+join-shuffled all = refl
+join-shuffled any = refl
+join-shuffled allShuffled = refl
+join-shuffled anyShuffled = refl
 
 module _ (rule : Rule) (formed : WellFormed rule) where
   abbrev head : ℕ
@@ -78,7 +77,6 @@ module _ (rule : Rule) (formed : WellFormed rule) where
         let hl = flag-small (lastFrom head n) in
         let hr = flag-small (freesFrom head n) in
         let hi : i < 8 = omega (arith, within, wf .count) in
-        let ho = loose-small (fragmentWord f) in
         let hp = flag-small (inPFrom head n) in
         let hq = flag-small (inQFrom head n) in
         let he = flag-small (endsPFrom head n) in
@@ -89,8 +87,8 @@ module _ (rule : Rule) (formed : WellFormed rule) where
           frees = flag-says 9 cell (omega arith) ∙ frees-is n;
           index = omega arith;
           less = omega (arith, count-in f wf, wf .count);
-          join = omega (arith, join-in f, join-one (f .join));
-          loose = omega (arith, loose-is f wf);
+          join = omega (arith, join-in f, join-few (f .join));
+          shuffled = flag-says 17 cell (omega (arith, join-in f, join-few (f .join), join-shuffled (f .join)));
           u = omega (arith, low-in (rangeAt rule n i) wr);
           v = omega (arith, high-in (rangeAt rule n i) wr);
           inP = flag-says 19 cell (omega arith) ∙ in-p-is n;

@@ -31,13 +31,9 @@ orderFrom head n = over 4 n (over 4 (beforeFrom head n) (over 1 (flag (lastFrom 
 abbrev pub lessFrom : ℕ → ℕ
 lessFrom word = (countIn word + 7) % 8
 
--- no other range of the fragment need come: it has one, or is joined any
-unfoldable pub looseFrom : ℕ → ℕ
-looseFrom word = cond (eqb (countIn word) 1) 1 (joinIn word % 2)
-
--- without the number of a range
+-- without the number of a range; the bit above the join is free
 unfoldable pub fragmentFrom : ℕ → ℕ
-fragmentFrom word = over 3 0 (over 3 (lessFrom word) (over 2 (joinIn word % 4) (looseFrom word)))
+fragmentFrom word = over 3 0 (over 3 (lessFrom word) (joinIn word % 4))
 
 -- ---- of the clock
 

@@ -3,7 +3,7 @@ ghost use mathlib.Core.Path.{_≡_};
 ghost use Prim.Native.Nat.{_<_};
 ghost use Rattle.bits.specs.Bits.{flag};
 ghost use Rattle.tables.specs.Words.{roundIn};
-ghost use Rattle.cells.specs.Making.{beforeFrom, orderFrom, looseFrom, fragmentFrom, clockFrom, sharedCell, cellWith};
+ghost use Rattle.cells.specs.Making.{beforeFrom, orderFrom, fragmentFrom, clockFrom, sharedCell, cellWith};
 
 // A field of one bit.
 fn flag(yes: bool) -> u64
@@ -44,23 +44,13 @@ fn order(head: u64, f: usize) -> u64
 
 // ---- what the fragment says
 
-// Whether no other range of the fragment need come once one has: it has one, or is joined any. So an event on a lone range asks nothing of the other states.
-fn looseness(word: u16) -> u64
-    ensures { λ r. ⌜ (r ≡ looseFrom word) × (r < 2) ⌝ }
-{
-    if tables::ranges_in(word) == 1 {
-        return 1;
-    }
-    (tables::join(word) % 2) as u64
-}
-
-// Its count of ranges less one, its join, and whether it is loose. One less than a count of 1 to 8 is that of 7 more, modulo 8, and so nothing is asked of the count.
+// Its count of ranges less one, and its join. One less than a count of 1 to 8 is that of 7 more, modulo 8, and so nothing is asked of the count.
 fn fragment(word: u16) -> u64
-    ensures { λ r. ⌜ (r ≡ fragmentFrom word) × (r < 512) ⌝ }
+    ensures { λ r. ⌜ (r ≡ fragmentFrom word) × (r < 256) ⌝ }
 {
     let less = ((tables::ranges_in(word) + 7) % 8) as u64;
     let join = (tables::join(word) % 4) as u64;
-    8 * less + 64 * join + 256 * looseness(word)
+    8 * less + 64 * join
 }
 
 // ---- what the clock says of fragment f

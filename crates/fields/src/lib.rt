@@ -126,7 +126,7 @@ pub fn least(s: &[u8], at: usize) -> Found
 // ---- the fields that go by the terms of reading
 
 // The versions that are read are 1 to this one.
-const NEWEST: u64 = 1;
+const NEWEST: u64 = 2;
 
 // The most rules of a sheet.
 const MOST_RULES: u64 = 16;
@@ -136,8 +136,12 @@ const FIRST_KIND: u64 = 0;
 
 const LAST_KIND: u64 = 2;
 
-// The last join of version 1.
-const LAST_JOIN: u64 = 1;
+// The first version in which a fragment may be shuffled, the last join of the versions before it, and the last one from it on.
+const FIRST_SHUFFLED: u64 = 2;
+
+const LAST_PLAIN_JOIN: u64 = 1;
+
+const LAST_JOIN: u64 = 3;
 
 // The last name.
 const LAST_NAME: u8 = 63;
@@ -151,6 +155,9 @@ pub const MOST_RANGES: u64 = 8;
 fn last_join(version: u64) -> u64
     ensures { λ r. ⌜ r ≡ today .lastJoin version ⌝ }
 {
+    if version < FIRST_SHUFFLED {
+        return LAST_PLAIN_JOIN;
+    }
     LAST_JOIN
 }
 

@@ -1,14 +1,16 @@
-// The eight recogniser states of the fragment that a rule stands at (document 01, "The recogniser of a range"), as an array and as one word, a byte each. A fragment that has begun has
-// one range that counts, and each other one waits or is done; what is asked of the states is asked of the word, and of the cell of the range that counts.
+// The eight recogniser states and the eight counts of the fragment that a rule stands at (document 01, "The recogniser of a range"; document 02, change 1): both before the fragment's first
+// event, and with one of them replaced. No array is written at a place that is not known: new states come from one word, and new counts from eight choices, which the compiler makes at once.
 ghost use mathlib.Core.Path.{_≡_};
-ghost use Prim.Native.Nat.{_*_, _/_, _-_, _^_, _<_, _≤_};
-ghost use Rattle.tables.specs.Cells.{indexIn, lessIn};
-ghost use Rattle.fragment.specs.Fragments.{digits, wordOf, begunOf, noneWaits, completeOf, growsOf};
+ghost use mathlib.Core.Bool.{cond};
+ghost use Prim.Native.Nat.{_+_, _*_, _/_, _%_, _-_, _^_, _<_};
+ghost use lib.ListN.{getD, set};
+ghost use Rattle.tables.specs.Cells.{lessIn};
+ghost use Rattle.fragment.specs.Fragments.{digits, wordOf, waitingOf, rangesOf};
 
-// ---- eight states in one word
+// ---- by a cell
 
 // Eight states from one word, the first from its lowest byte.
-pub fn spread(word: u64) -> [u8; 8]
+fn spread(word: u64) -> [u8; 8]
     ensures { λ r. ⌜ r ≡ digits 8 word ⌝ }
 {
     let w1 = word / 256;
@@ -30,6 +32,29 @@ pub fn spread(word: u64) -> [u8; 8]
     ]
 }
 
+// The lowest bytes of a word of eight equal bytes: one for each range of the cell's fragment.
+fn cut(word: u64, cell: u64) -> u64
+    ensures { λ r. ⌜ r ≡ word / 2 ^ (56 - 8 * lessIn cell) ⌝ }
+{
+    word >> (56 - 8 * tables::less_in(cell))
+}
+
+// Each range of the cell's fragment waits (2).
+pub fn waiting(cell: u64) -> [u8; 8]
+    ensures { λ r. ⌜ r ≡ waitingOf cell ⌝ }
+{
+    spread(cut(0x0202020202020202, cell))
+}
+
+// The set of the ranges of the cell's fragment.
+pub fn ranges(cell: u64) -> u8
+    ensures { λ r. ⌜ r ≡ rangesOf cell ⌝ }
+{
+    255u8 >> (7 - tables::less_in(cell))
+}
+
+// ---- one of eight replaced
+
 fn wide(x: u8) -> u64
     ensures { λ r. ⌜ (r ≡ x) × (r < 256) ⌝ }
 {
@@ -37,62 +62,46 @@ fn wide(x: u8) -> u64
 }
 
 // The word of eight states.
-pub fn packed(x: [u8; 8]) -> u64
-    ensures { λ r. ⌜ (r ≡ wordOf x) × (digits 8 r ≡ x) ⌝ }
+fn packed(x: [u8; 8]) -> u64
+    ensures { λ r. ⌜ r ≡ wordOf x ⌝ }
 {
     let high = wide(x[4]) + 256 * (wide(x[5]) + 256 * (wide(x[6]) + 256 * wide(x[7])));
     wide(x[0]) + 256 * (wide(x[1]) + 256 * (wide(x[2]) + 256 * (wide(x[3]) + 256 * high)))
 }
 
-// ---- by a cell
-
-// 1 in the byte of the cell's range.
-fn unit(cell: u64) -> u64
-    ensures { λ r. ⌜ (r ≡ 2 ^ (8 * indexIn cell)) × (r ≤ 72057594037927936) ⌝ }
+// The states, with range i's replaced: the byte is taken out of the word, and the new one put in its place.
+pub fn with_state(x: [u8; 8], i: u8, state: u8) -> [u8; 8]
+    requires { ⌜ i < 8 ⌝ }
+    ensures { λ r. ⌜ r ≡ set x i state ⌝ }
 {
-    1 << (8 * tables::index_in(cell))
+    let word = packed(x);
+    let at = 8 * i;
+    let old = (word >> at) % 256;
+    spread(word - (old << at) + ((state as u64) << at))
 }
 
-// The lowest bytes of a word of eight equal bytes: one for each range of the cell's fragment.
-fn cut(word: u64, cell: u64) -> u64
-    ensures { λ r. ⌜ (r ≡ word / 2 ^ (56 - 8 * lessIn cell)) × (r ≤ word) ⌝ }
+fn raised_if(here: bool, count: u16) -> u16
+    ensures { λ r. ⌜ r ≡ cond here ((count + 1) % 65536) count ⌝ }
 {
-    word >> (56 - 8 * tables::less_in(cell))
-}
-
-// The states after the first event of a fragment: the cell's range counts (3), and each other one waits (2).
-pub fn begun(cell: u64) -> [u8; 8]
-    ensures { λ r. ⌜ r ≡ begunOf cell ⌝ }
-{
-    spread(cut(0x0202020202020202, cell) + unit(cell))
-}
-
-// No range waits: where the cell's range counts (3), each other one is done (4).
-fn none_waits(cell: u64, x: [u8; 8]) -> bool
-    ensures { λ r. ⌜ r ≡ noneWaits cell x ⌝ }
-{
-    std::num::wrapping_add_u64(packed(x), unit(cell)) == cut(0x0404040404040404, cell)
-}
-
-// *next* is no error to any range, where the cell's counts: it has enough, and no other one need come, or none waits.
-pub fn complete(cell: u64, x: [u8; 8], count: u16) -> bool
-    ensures { λ r. ⌜ r ≡ completeOf cell x count ⌝ }
-{
-    if count < tables::least_in(cell) {
-        return false;
+    if here {
+        return std::num::wrapping_add_u16(count, 1);
     }
-    if tables::loose_in(cell) == 1 {
-        return true;
-    }
-    none_waits(cell, x)
+    count
 }
 
-// The fragment can take one more event, where the cell's range counts: that range can, or one that waits.
-pub fn grows(cell: u64, x: [u8; 8], count: u16) -> bool
-    ensures { λ r. ⌜ r ≡ growsOf cell x count ⌝ }
+// The counts, with range i's one higher. A count that the next would not hold wraps; no count of a sheet's range goes so high.
+pub fn raised(x: [u16; 8], i: u8) -> [u16; 8]
+    ensures { λ r. ⌜ r ≡ set x i ((getD x i 0 + 1) % 65536) ⌝ }
 {
-    if count < tables::most_in(cell) {
-        return true;
-    }
-    !none_waits(cell, x)
+    let at = i as u16;
+    [
+        raised_if(at == 0, x[0]),
+        raised_if(at == 1, x[1]),
+        raised_if(at == 2, x[2]),
+        raised_if(at == 3, x[3]),
+        raised_if(at == 4, x[4]),
+        raised_if(at == 5, x[5]),
+        raised_if(at == 6, x[6]),
+        raised_if(at == 7, x[7]),
+    ]
 }

@@ -57,7 +57,7 @@ module _ (s : List ℕ) (bytes : Bytes s) where
       let h : number s n (at + 1) < 256 ^ n = number-small n (at + 1) in rw (pow-suc 256 n) (omega (arith, byte-at s bytes at))
 
 -- a field's number is read off its bytes
-number-of : (s : List ℕ) (n x at : ℕ) (rest : List ℕ) → x < 256 ^ n → drop at s ≡ le n x ++ rest → number s n at ≡ x
+pub number-of : (s : List ℕ) (n x at : ℕ) (rest : List ℕ) → x < 256 ^ n → drop at s ≡ le n x ++ rest → number s n at ≡ x
 unfolding number
 number-of s zero x at rest h e = omega (arith, h)
 number-of s (suc n) x at rest h e =

@@ -19,11 +19,11 @@ use Rattle.layout.specs.Reading.{sheet, accepted, refused, atEnd, readSh
 module _ (s : List ℕ) where
   -- ---- a field: it is right, or it has a fault
 
-  data AtField (n : ℕ) (fault : ℕ → ℕ) (at : ℕ) : Type 0 where
+  pub data AtField (n : ℕ) (fault : ℕ → ℕ) (at : ℕ) : Type 0 where
     is-right : RightField s n fault at → fieldAt s n fault at ≡ got (number s n at) (at + n) → AtField n fault at
     has-fault : (k : ℕ) → HasFault s n fault at k → fieldAt s n fault at ≡ stopped k at → AtField n fault at
 
-  at-field : (n : ℕ) (fault : ℕ → ℕ) (at : ℕ) → AtField n fault at
+  pub at-field : (n : ℕ) (fault : ℕ → ℕ) (at : ℕ) → AtField n fault at
   unfolding fieldAt
   at-field n fault at = go (ltb (length s) (at + n)) refl (fault (number s n at)) refl
     where

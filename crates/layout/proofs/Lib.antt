@@ -10,3 +10,4 @@ pub mod Length
 pub mod Accepted
 pub mod PageLaws
 pub mod Once
+pub mod Versions

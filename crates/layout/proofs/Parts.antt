@@ -7,7 +7,7 @@ use mathlib.Core.List.{List, [], _∷_, _++_, append-assoc}
 use Prim.Native.Nat.{ℕ, zero, suc, _≤_}
 use native.Mathlib.Omega.{arith}
 use lib.ListN.{length, drop}
-use Rattle.pattern.specs.Meaning.{Range, Join, all, any, Fragment, fragmentNames, orderingNames, Kind, once, repeated, timed, Rule, Between, WellFormedRange}
+use Rattle.pattern.specs.Meaning.{Range, Join, all, any, allShuffled, anyShuffled, Fragment, fragmentNames, orderingNames, Kind, once, repeated, timed, Rule, Between, WellFormedRange}
 use Rattle.names.specs.Names.{insertAll}
 use Rattle.layout.specs.Terms.{noFault, Terms, Covered}
 use Rattle.layout.specs.Layout.{each, mostFragments, mostRanges, joinNumber, kindNumber, inQ, triggerOf, timeOf, rangeBytes, fragmentBytes, Header, headerOf, headerBytes, ruleBytes, JoinAllowed, Bytes}
@@ -64,11 +64,15 @@ FragmentFits T version outputs ofQ used f = JoinAllowed T version f × (Between 
 pub join-number : {T : Terms} → Covered T → (version j : ℕ) → Between 0 (T .lastJoin version) j → joinNumber (joinOf j) ≡ j
 join-number covered version zero h = refl
 join-number covered version (suc zero) h = refl
-join-number covered version (suc (suc j)) h = absurd (omega (arith, h .1, covered .joins version))
+join-number covered version (suc (suc zero)) h = refl
+join-number covered version (suc (suc (suc zero))) h = refl
+join-number covered version (suc (suc (suc (suc j)))) h = absurd (omega (arith, h .1, covered .joins version))
 
-join-of : (j : Join) → joinOf (joinNumber j) ≡ j
+pub join-of : (j : Join) → joinOf (joinNumber j) ≡ j
 join-of all = refl
 join-of any = refl
+join-of allShuffled = refl
+join-of anyShuffled = refl
 
 module _ {T : Terms} (covered : Covered T) (s : List ℕ) (version outputs : ℕ) (ofQ : Bool) where
   pub ranges-length : (used n at : ℕ) {end : ℕ} {rs : List Range} → read s (ranges T version outputs ofQ used n) at ≡ got rs end → length rs ≡ n

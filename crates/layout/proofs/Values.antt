@@ -1,7 +1,7 @@
 -- The faults of a field's value: a value has none exactly when it is what document 01 asks of it.
 -- Assumes nothing.
 use mathlib.Core.Path.{_≡_, refl}
-use mathlib.Core.Bool.{Bool, true, false, not, _&&_}
+use mathlib.Core.Bool.{Bool, true, false, cond, not, _&&_}
 use Prim.Native.Nat.{ℕ, zero, suc, _≤_, _<_, _^_}
 use native.Mathlib.Omega.{arith}
 use lib.Dec.{ltb}
@@ -9,18 +9,26 @@ use borrow.Author.Tests.{lt-ltb, le-ltb, ltb-false}
 use Rattle.pattern.specs.Meaning.{Between}
 use Rattle.names.specs.Names.{member, insert, withName}
 use Rattle.layout.specs.Layout.{Input}
-use Rattle.layout.specs.Terms.{_when_or_, noFault, Terms, eightFirst, today, Covered}
+use Rattle.layout.specs.Terms.{_when_or_, noFault, Terms, eightFirst, base, firstShuffled, today, Covered}
 use Rattle.layout.specs.Reading.{outside, unlike, dueZero, countFault, below, mostFault, nameFault, triggerFault, byKind}
+
+in-order : (a b c : Bool) → eightFirst a b c ≡ 0 → (a ≡ false) × (b ≡ false) × (c ≡ false)
+in-order true b c z = absurd (omega (arith, z))
+in-order false true c z = absurd (omega (arith, z))
+in-order false false true z = absurd (omega (arith, z))
+in-order false false false z = (refl, refl, refl)
 
 -- on terms that the meaning covers, as today's are
 pub today-covered : Covered today
-today-covered = record { versions = omega arith; joins = λ v. omega arith; ends = λ v. refl; rules = omega arith; faultless = order; right = refl }
+today-covered = record { versions = omega arith; joins = λ v. few (ltb v firstShuffled); ends = λ v. refl; rules = omega arith; faultless = in-order; right = refl }
   where
-    order : (a b c : Bool) → eightFirst a b c ≡ 0 → (a ≡ false) × (b ≡ false) × (c ≡ false)
-    order true b c z = absurd (omega (arith, z))
-    order false true c z = absurd (omega (arith, z))
-    order false false true z = absurd (omega (arith, z))
-    order false false false z = (refl, refl, refl)
+    few : (b : Bool) → cond b 1 3 ≤ 3
+    few true = omega arith
+    few false = omega arith
+
+-- and as document 01's were
+pub base-covered : Covered base
+base-covered = record { versions = omega arith; joins = λ v. omega arith; ends = λ v. refl; rules = omega arith; faultless = in-order; right = refl }
 
 pub outside-faultless : (k first last x : ℕ) → outside (suc k) first last x ≡ 0 → Between first last x
 outside-faultless k first last x = go (ltb x first) (ltb last x) refl refl

@@ -1,4 +1,4 @@
--- The bytes of a sheet, and which sheets are well-formed (document 01, "The sheet"). This is the format, said without a reader: a sheet's bytes are `encode S`,
+-- The bytes of a sheet, and which sheets are well-formed (document 01, "The sheet"; document 02 for version 2). This is the format, said without a reader: a sheet's bytes are `encode S`,
 -- and S is one that may be written if it is well-formed. What a rule is, and when it is well-formed by itself, is the crate `pattern`'s.
 -- Assumes nothing.
 use mathlib.Core.Path.{_≡_}
@@ -7,12 +7,12 @@ use mathlib.Core.List.{List, [], _∷_, _++_}
 use Prim.Native.Nat.{ℕ, zero, suc, _/_, _%_, _^_, _<_, _≤_}
 use lib.ListN.{length}
 use Rattle.pattern.specs.Lists.{Each}
-use Rattle.pattern.specs.Meaning.{Range, Join, all, any, Fragment, Kind, once, repeated, timed, Rule, orderingNames, Between, WellFormed}
+use Rattle.pattern.specs.Meaning.{Range, Join, all, any, allShuffled, anyShuffled, Fragment, Kind, once, repeated, timed, Rule, orderingNames, Between, WellFormed}
 use Rattle.names.specs.Names.{member}
 use Rattle.layout.specs.Terms.{Terms, today}
 
 pub record Sheet : Type 0 where
-  -- "version (u16, 1)"
+  -- "version (u16, 1)", and 2 since change 1
   pub version : ℕ
   -- "bit n is set if name n is an output of the plugin, clear if an input"
   pub outputs : ℕ
@@ -44,10 +44,12 @@ mostRanges = 8
 abbrev pub lastName : ℕ
 lastName = 63
 
--- "join (0 all, 1 any)"
+-- "join (0 all, 1 any)", and in version 2 "join 2 (all, shuffled) and 3 (any, shuffled)"
 abbrev pub joinNumber : Join → ℕ
 joinNumber all = 0
 joinNumber any = 1
+joinNumber allShuffled = 2
+joinNumber anyShuffled = 3
 
 -- "kind (0, 1, 2)"
 abbrev pub kindNumber : Kind → ℕ
@@ -77,7 +79,7 @@ timeOf (timed q t) = t
 abbrev pub rangeBytes : Range → List ℕ
 rangeBytes r = le 1 (r .name) ++ (le 2 (r .u) ++ le 2 (r .v))
 
--- "join (0 all, 1 any), range count (1 to 8), and each range"
+-- "join .., range count (1 to 8), and each range"
 abbrev pub fragmentBytes : Fragment → List ℕ
 fragmentBytes f = le 1 (joinNumber (f .join)) ++ (le 1 (length (f .ranges)) ++ each rangeBytes (f .ranges))
 
@@ -109,7 +111,7 @@ ruleBytes r = headerBytes (headerOf r) ++ (each fragmentBytes (r .p) ++ each fra
 abbrev pub mark : ℕ
 mark = 0x42_4F_4C
 
--- "Header, 14 bytes: the mark, version (u16, 1), outputs (u64), rule count (1 to 16)", then each rule
+-- "Header, 14 bytes: the mark, version (u16), outputs (u64), rule count (1 to 16)", then each rule
 abbrev pub encode : Sheet → List ℕ
 encode S = le 3 mark ++ (le 2 (S .version) ++ (le 8 (S .outputs) ++ (le 1 (length (S .rules)) ++ each ruleBytes (S .rules))))
 

@@ -1,15 +1,16 @@
 -- Reading a sheet field by field (document 01, "Where each refusal is found"). The sheet is a form: each field with the faults that its value may have.
 -- Assumes nothing.
+use mathlib.Core.Path.{_≡_}
 use mathlib.Core.Bool.{Bool, true, false, cond, not, _&&_}
 use mathlib.Core.List.{List, [], _∷_}
-use Prim.Native.Nat.{ℕ, zero, suc, _<_}
+use Prim.Native.Nat.{ℕ, zero, suc, _≤_, _<_}
 use lib.Dec.{ltb, eqb}
 use lib.ListN.{length}
-use Rattle.pattern.specs.Meaning.{Range, Join, all, any, Fragment, fragmentNames, orderingNames, Kind, once, repeated, timed, Rule}
+use Rattle.pattern.specs.Meaning.{Range, Join, all, any, allShuffled, anyShuffled, Fragment, fragmentNames, orderingNames, Kind, once, repeated, timed, Rule}
 use Rattle.names.specs.Names.{member, insert, insertAll}
 use Rattle.layout.specs.Terms.{_when_or_, noFault, Terms, today}
 use Rattle.layout.specs.Layout.{Sheet, Header, mark, lastKind, mostFragments, mostRanges, lastName}
-use Rattle.layout.specs.Form.{Form, done, field, _>>=_, ask, Got, got, stopped, read}
+use Rattle.layout.specs.Form.{Form, done, field, _>>=_, ask, Got, got, stopped, number, read}
 
 -- ---- the faults of a field's value: the number of the first that it has, or 0
 
@@ -48,7 +49,7 @@ abbrev pub triggerFault : ℕ → ℕ → ℕ
 triggerFault outputs i = 6 when ltb lastName i or 9 when member outputs i or 0
 
 module _ (T : Terms) where
-  -- "version | 3 not 1"
+  -- "version | 3 not 1", of document 02: "refusal 3 is for versions other than 1 and 2"
   abbrev pub versionFault : ℕ → ℕ
   versionFault = outside 3 1 (T .newest)
 
@@ -60,7 +61,7 @@ module _ (T : Terms) where
   abbrev pub kindFault : ℕ → ℕ → ℕ
   kindFault version = outside 4 (T .firstKind version) lastKind
 
-  -- "join (0 all, 1 any)"
+  -- "join (0 all, 1 any)", and what a version adds
   abbrev pub joinFault : ℕ → ℕ → ℕ
   joinFault version = outside 4 0 (T .lastJoin version)
 
@@ -78,9 +79,12 @@ several one names used (suc n) = do
   xs ← several one names (insertAll used (names x)) n
   done (x ∷ xs)
 
+-- the join of a number from 0 to 3
 abbrev pub joinOf : ℕ → Join
 joinOf zero = all
-joinOf (suc n) = any
+joinOf (suc zero) = any
+joinOf (suc (suc zero)) = allShuffled
+joinOf (suc (suc (suc n))) = anyShuffled
 
 abbrev pub kindOf : ℕ → ℕ → List Fragment → ℕ → Kind
 kindOf zero i q t = once i
@@ -146,6 +150,10 @@ sheet T = do
   n ← ask 1 (rulesFault T)
   rs ← rules T v o n
   done (record { version = v; outputs = o; rules = rs })
+
+-- bytes in which the version's field, two bytes after the mark, fits and has this value
+abbrev pub HasVersion : ℕ → List ℕ → Type 0
+HasVersion version s = (5 ≤ length s) × (number s 2 3 ≡ version)
 
 -- ---- the whole answer
 

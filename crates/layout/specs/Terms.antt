@@ -1,9 +1,10 @@
 -- The terms on which a sheet is read: which versions there are and what each allows, what a caller allows, and the order of the faults at a range's name. The format, the reading and what is
--- well-formed are defined over any terms. Today's are one value; terms of before a change are another, so that what the change affects is a statement about two readings (`read-alike`).
+-- well-formed are defined over any terms. Today's are one value; terms of before a change are another, so that what the change affects is a statement about two readings (`read-alike`, `other-versions-stay`).
 -- Assumes nothing.
 use mathlib.Core.Path.{_≡_}
 use mathlib.Core.Bool.{Bool, false, cond}
 use Prim.Native.Nat.{ℕ, _<_, _≤_}
+use lib.Dec.{ltb}
 
 -- the number of a fault where it is met, or what the rest says
 infixr 20 _when_or_
@@ -31,8 +32,8 @@ abbrev pub eightFirst : Bool → Bool → Bool → ℕ
 eightFirst above again misdirected = 6 when above or 8 when again or 9 when misdirected or 0
 
 -- document 01's: "version (u16, 1)", "kind (0, 1, 2)", "join (0 all, 1 any)", no v = 0, "rule count (1 to 16)". That "A sheet has at most 5,774 bytes" follows (`accepted-length`), and is no fault
-abbrev pub today : Terms
-today = record {
+abbrev pub base : Terms
+base = record {
   newest = 1;
   firstKind = λ version. 0;
   lastJoin = λ version. 1;
@@ -42,10 +43,26 @@ today = record {
   inOrder = eightFirst;
 }
 
+-- document 02, change 1: "Version 2 sheets add join 2 (all, shuffled) and 3 (any, shuffled)", "Version 1 sheets read as before"
+abbrev pub firstShuffled : ℕ
+firstShuffled = 2
+
+-- document 01's with change 1: "refusal 3 is for versions other than 1 and 2". No version has v = 0 yet
+abbrev pub today : Terms
+today = record {
+  newest = 2;
+  firstKind = base .firstKind;
+  lastJoin = λ version. cond (ltb version firstShuffled) 1 3;
+  endless = base .endless;
+  bytes = base .bytes;
+  mostRules = base .mostRules;
+  inOrder = base .inOrder;
+}
+
 -- terms that let in no more than rules mean and fields hold: no join and no v that the meaning does not have, versions of 16 bits, rules for 16 of which there is room, and at a name the three faults
 pub record Covered (T : Terms) : Type 0 where
   pub versions : T .newest < 65536
-  pub joins : (version : ℕ) → T .lastJoin version ≤ 1
+  pub joins : (version : ℕ) → T .lastJoin version ≤ 3
   pub ends : (version : ℕ) → T .endless version ≡ false
   pub rules : T .mostRules ≤ 16
   pub faultless : (above again misdirected : Bool) → T .inOrder above again misdirected ≡ 0 → (above ≡ false) × (again ≡ false) × (misdirected ≡ false)

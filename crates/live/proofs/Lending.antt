@@ -18,7 +18,7 @@ use Rattle.book.specs.declared.Translation.{Translation}
 use Rattle.book.specs.Books.{Translates, bookOf}
 use Rattle.book.proofs.Lookups.{looks}
 use Rattle.book.proofs.Translated.{answered}
-use Rattle.monitor.specs.Promise.{seen, valuesOf, inWords, Observes, Freshes, Run, done, more}
+use Rattle.monitor.specs.Promise.{seen, valuesOf, inMemory, Observes, Freshes, Run, done, more}
 use Rattle.monitor.proofs.Agreement.{agrees-from}
 use Rattle.answers.specs.declared.Answer.{Answer}
 use Rattle.answers.specs.declared.Answer.the-variants.{Whole, Open, Broken}
@@ -30,7 +30,7 @@ use Rattle.live.specs.Live.{Arrays, OpensBy, Opens, Notes, Live, none, c
 -- ---- opening
 
 module _ (sheet : List ℕ) (t : Translation) (translates : Translates sheet t) (before : Arrays) where
-  pub opens-accepted : tagOf the-type (t .answer) ≡ 0 → (first : List ℕ) → Freshes inWords first → Opens sheet before 0 (record { table = t .book .table; monitor = first })
+  pub opens-accepted : tagOf the-type (t .answer) ≡ 0 → (first : List ℕ) → Freshes inMemory first → Opens sheet before 0 (record { table = t .book .table; monitor = first })
   opens-accepted e first fresh = look (readSheet sheet) refl (sym e ∙ ap (tagOf the-type) (answered sheet t translates))
     where
       look : (x : Outcome) → readSheet sheet ≡ x → 0 ≡ tagOf the-type (answerOf x) → Opens sheet before 0 (record { table = t .book .table; monitor = first })
@@ -66,7 +66,7 @@ refused-unchanged c e = c .observes .unchanged (sym (low-byte (c .answer)) ∙ a
 record Calls (table m : List ℕ) (os : List Observation) (rs last : List ℕ) : Type 0 where
   answers : List Answer
   numbers : rs ≡ map (λ (a : Answer). wordOf (valuesOf a)) answers
-  run : Run (Observes inWords table) m os answers last
+  run : Run (Observes inMemory table) m os answers last
 
 calls : {table m last rs : List ℕ} {os : List Observation} → Live table m os rs last → Calls table m os rs last
 calls none = record { answers = []; numbers = refl; run = done }
@@ -74,11 +74,11 @@ calls (call c rest) =
     let r = calls rest in
     record { answers = c .answer ∷ r .answers; numbers = ap₂ (λ (x : ℕ) (l : List ℕ). x ∷ l) (c .number) (r .numbers); run = more (c .observes) (r .run) }
 
-module _ (S : Sheet) (formed : WellFormedSheet S) {m : List ℕ} (fresh : Freshes inWords m) {os : List Observation} {rs last : List ℕ} where
+module _ (S : Sheet) (formed : WellFormedSheet S) {m : List ℕ} (fresh : Freshes inMemory m) {os : List Observation} {rs last : List ℕ} where
   agrees : Live (bookOf S .table) m os rs last → LiveAgreement S os rs last
   agrees live =
       let r = calls live in
-      let a = agrees-from inWords (bookOf S) S formed m (fresh .follows S (bookOf S) formed (looks S formed)) (r .run) in
+      let a = agrees-from inMemory (bookOf S) S formed m (fresh .follows S (bookOf S) formed (looks S formed)) (r .run) in
       record {
         judged = a .judged;
         agrees = λ oracle right. record {
@@ -97,7 +97,7 @@ live-agreement sheet bytes before after r opens S is os rs last live =
     let o : OpensBy (accepted S) before after = subst (λ (x : Outcome). OpensBy x before after) is (opens .opens) in
     agrees S (accepted-is-encoded sheet bytes is .formed) (o .1) (subst (λ (t : List ℕ). Live t (after .monitor) os rs last) (o .0) live)
 
--- and so from the monitor that `guard3_start` left, under the book of any accepted sheet
-pub started-agreement : (m : List ℕ) → Freshes inWords m → (sheet : List ℕ) → Bytes sheet → (S : Sheet) → readSheet sheet ≡ accepted S
+-- and so from the monitor that `guard4_start` left, under the book of any accepted sheet
+pub started-agreement : (m : List ℕ) → Freshes inMemory m → (sheet : List ℕ) → Bytes sheet → (S : Sheet) → readSheet sheet ≡ accepted S
     → (os : List Observation) (rs last : List ℕ) → Live (bookOf S .table) m os rs last → LiveAgreement S os rs last
 started-agreement m fresh sheet bytes S is os rs last = agrees S (accepted-is-encoded sheet bytes is .formed) fresh

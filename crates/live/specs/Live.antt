@@ -16,11 +16,11 @@ use Rattle.words.specs.Words.{heldBy}
 use Rattle.answers.specs.declared.Observation.{Observation}
 use Rattle.answers.specs.declared.Answer.{Answer}
 use Rattle.replies.specs.Replies.{wordOf}
-use Rattle.monitor.specs.Promise.{seen, valuesOf, verdictIn, inWords, Observes, Freshes}
+use Rattle.monitor.specs.Promise.{seen, valuesOf, verdictIn, inMemory, Observes, Freshes}
 
 -- it rises with each call that is added or changed, and with the memory that a host lends
 abbrev pub libraryVersion : ℕ
-libraryVersion = 3
+libraryVersion = 4
 
 -- ---- opening: the two arrays that a host lends
 
@@ -30,7 +30,7 @@ pub record Arrays : Type 0 where
 
 -- the table of an accepted sheet's book stands in the first, and a fresh monitor in the other; "A refused sheet gives no monitor", and both stay as they were
 abbrev pub OpensBy : Outcome → Arrays → Arrays → Type 0
-OpensBy (accepted S) before after = (after .table ≡ bookOf S .table) × Freshes inWords (after .monitor)
+OpensBy (accepted S) before after = (after .table ≡ bookOf S .table) × Freshes inMemory (after .monitor)
 OpensBy (refused number place) before after = after ≡ before
 
 pub record Opens (sheet : List ℕ) (before : Arrays) (r : ℕ) (after : Arrays) : Type 0 where
@@ -42,13 +42,13 @@ pub record Opens (sheet : List ℕ) (before : Arrays) (r : ℕ) (after : Arrays)
 pub record Notes (table before : List ℕ) (o : Observation) (r : ℕ) (after : List ℕ) : Type 0 where
   pub answer : Answer
   pub number : r ≡ wordOf (valuesOf answer)
-  pub observes : Observes inWords table before o answer after
+  pub observes : Observes inMemory table before o answer after
 
--- the verdict that the monitor in these words holds
+-- the verdict that the monitor in these bytes holds
 abbrev pub verdictIs : ℕ → List ℕ → Type 0
 verdictIs r m = r ≡ wordOf (verdictValues (verdictIn (heldBy m)))
 
--- ---- a session: one call after the other, each on the words that the last one left: an event by its call, a clock reading by its own
+-- ---- a session: one call after the other, each on the bytes that the last one left: an event by its call, a clock reading by its own
 
 pub data Live (table : List ℕ) : List ℕ → List Observation → List ℕ → List ℕ → Type 0 where
   none : {m : List ℕ} → Live table m [] [] m

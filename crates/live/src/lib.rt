@@ -1,18 +1,18 @@
 // A live session for C hosts (document 01, "Observing"): "The host's session keeps one monitor, lent to the guard and changed in place". The host lends the book's table, which opening
-// writes and nothing else changes, and the monitor's words. An answer is one number (crate `replies`). The number in a call's name is that of the layout of what is lent: a host of
+// writes and nothing else changes, and the monitor's memory. An answer is one number (crate `replies`). The number in a call's name is that of the layout of what is lent: a host of
 // another layout does not link.
 ghost use mathlib.Core.Path.{_≡_};
 ghost use Rattle.layout.specs.Terms.{today};
 ghost use Rattle.words.specs.Words.{heldBy};
 ghost use Rattle.answers.specs.declared.Observation.the-variants.{Event, Clock};
-ghost use Rattle.monitor.specs.Promise.{inWords, Freshes};
+ghost use Rattle.monitor.specs.Promise.{inMemory, Freshes};
 ghost use Rattle.live.specs.Live.{libraryVersion, Opens, Notes, verdictIs};
 use tables::Table;
 use words::Memory;
 
 // Reads a sheet into the table of its book and makes a fresh monitor; 0. Or the sheet's refusal and its place: then neither is changed.
 #[no_mangle]
-pub extern "C" fn guard3_open(sheet: &[u8], book: &mut Table, monitor: &mut Memory) -> u64
+pub extern "C" fn guard4_open(sheet: &[u8], book: &mut Table, monitor: &mut Memory) -> u64
     ensures { λ r. ⌜ Opens (now (sheet .entry)) (record { table = now (book .entry); monitor = now (monitor .entry) }) r (record { table = now (book .exit); monitor = now (monitor .exit) }) ⌝ }
 {
     let t = book::translate(sheet);
@@ -35,8 +35,8 @@ pub extern "C" fn guard3_open(sheet: &[u8], book: &mut Table, monitor: &mut Memo
 
 // Makes the monitor a fresh one, for whatever book.
 #[no_mangle]
-pub extern "C" fn guard3_start(monitor: &mut Memory)
-    ensures { λ _. ⌜ Freshes inWords (now (monitor .exit)) ⌝ }
+pub extern "C" fn guard4_start(monitor: &mut Memory)
+    ensures { λ _. ⌜ Freshes inMemory (now (monitor .exit)) ⌝ }
 {
     let first = monitor::fresh();
     *monitor = first;
@@ -44,7 +44,7 @@ pub extern "C" fn guard3_start(monitor: &mut Memory)
 
 // One event, under the book whose table is lent. A name of 64 or more, of whatever width, is one that the judge refuses.
 #[no_mangle]
-pub extern "C" fn guard3_event(book: &Table, monitor: &mut Memory, name: u32, time: u32) -> u64
+pub extern "C" fn guard4_event(book: &Table, monitor: &mut Memory, name: u32, time: u32) -> u64
     ensures { λ r. ⌜ Notes (now (book .entry)) (now (monitor .entry)) (Event name time) r (now (monitor .exit)) ⌝ }
 {
     let a = monitor::note(book, monitor, name, time);
@@ -53,7 +53,7 @@ pub extern "C" fn guard3_event(book: &Table, monitor: &mut Memory, name: u32, ti
 
 // One clock reading.
 #[no_mangle]
-pub extern "C" fn guard3_clock(book: &Table, monitor: &mut Memory, time: u32) -> u64
+pub extern "C" fn guard4_clock(book: &Table, monitor: &mut Memory, time: u32) -> u64
     ensures { λ r. ⌜ Notes (now (book .entry)) (now (monitor .entry)) (Clock time) r (now (monitor .exit)) ⌝ }
 {
     let a = monitor::tick(book, monitor, time);
@@ -62,7 +62,7 @@ pub extern "C" fn guard3_clock(book: &Table, monitor: &mut Memory, time: u32) ->
 
 // The verdict that the monitor holds.
 #[no_mangle]
-pub extern "C" fn guard3_verdict(monitor: &Memory) -> u64
+pub extern "C" fn guard4_verdict(monitor: &Memory) -> u64
     ensures { λ r. ⌜ verdictIs r (now (monitor .entry)) ⌝ }
 {
     replies::answer_word(monitor::verdict(monitor))
@@ -70,7 +70,7 @@ pub extern "C" fn guard3_verdict(monitor: &Memory) -> u64
 
 // The number of observations that the monitor has taken.
 #[no_mangle]
-pub extern "C" fn guard3_taken(monitor: &Memory) -> u32
+pub extern "C" fn guard4_taken(monitor: &Memory) -> u32
     ensures { λ r. ⌜ r ≡ heldBy (now (monitor .entry)) .taken ⌝ }
 {
     monitor::count(monitor)
@@ -78,9 +78,9 @@ pub extern "C" fn guard3_taken(monitor: &Memory) -> u32
 
 // ---- versions
 
-const LIBRARY: u32 = 3;
+const LIBRARY: u32 = 4;
 
-const NEWEST_SHEET: u32 = 1;
+const NEWEST_SHEET: u32 = 2;
 
 // This library's version, which a host compares with its header's.
 #[no_mangle]

@@ -1,6 +1,6 @@
 -- Sets of rules (document 01, "Observing"): "a 16-bit mask of the rules". Rules are numbered 0 to 15, and rule r is in a mask if its binary digit r is 1, as a name is in
--- a set of names (crate `names`). What each function promises is a record that speaks of every number; one of 16 or more is in no mask.
--- Assumes nothing.
+-- a set of names (crate `names`). What each function promises is a record that speaks of every number; one of 16 or more is in no mask. A set of a fragment's ranges, "1 to 8",
+-- is a word of eight digits in the same way. Assumes nothing.
 use mathlib.Core.Path.{_≡_}
 use mathlib.Core.Bool.{Bool, true, false, cond, not, _&&_, _||_}
 use Prim.Native.Nat.{ℕ, zero, suc, _+_, _^_, _<_}
@@ -42,3 +42,7 @@ pub record Less (mask r left : ℕ) : Type 0 where
 -- the mask without its lowest rule, if it has any
 abbrev pub Rest : ℕ → ℕ → Type 0
 Rest mask left = (r : ℕ) → 0 < mask → Lowest mask r → Less mask r left
+
+-- the set of ranges in which range i is or is not, as `on` says, and every other is as it was
+pub record Put (set i : ℕ) (on : Bool) (made : ℕ) : Type 0 where
+  pub members : (k : ℕ) → member made k ≡ cond (eqb k i) on (member set k)

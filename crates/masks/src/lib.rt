@@ -1,6 +1,9 @@
 // Sets of rules (document 01): "a 16-bit mask of the rules". Rule r is in a mask if bit r is set. Every mask and every number is taken: one of 16 or more is no rule,
-// and is in no mask.
-ghost use Rattle.masks.specs.Masks.{Union, Without, Lowest, Rest};
+// and is in no mask. And sets of a fragment's ranges: "1 to 8 ranges", so a set has 8 bits, and range i is in it if bit i is set; of a range's number the lowest three bits count.
+ghost use mathlib.Core.Path.{_≡_};
+ghost use Prim.Native.Nat.{_%_};
+ghost use Rattle.names.specs.Names.{member};
+ghost use Rattle.masks.specs.Masks.{Union, Without, Lowest, Rest, Put};
 
 // The rules of either mask.
 pub fn union(a: u16, b: u16) -> u16
@@ -31,4 +34,18 @@ pub fn rest(mask: u16) -> u16
         return 0;
     }
     mask & (mask - 1)
+}
+
+// The set of ranges in which range i is or is not, as `on` says, and every other is as it was.
+pub fn put(set: u8, i: u8, on: bool) -> u8
+    ensures { λ made. ⌜ Put set (i % 8) on made ⌝ }
+{
+    (set & !(1u8 << (i % 8))) | ((on as u8) << (i % 8))
+}
+
+// Range i is in the set of ranges.
+pub fn holds(set: u8, i: u8) -> bool
+    ensures { λ r. ⌜ r ≡ member set (i % 8) ⌝ }
+{
+    (set >> (i % 8)) % 2 == 1
 }

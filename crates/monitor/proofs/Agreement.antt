@@ -31,11 +31,11 @@ use Rattle.book.specs.Books.{Translates}
 use Rattle.book.specs.declared.Book.{Book}
 use Rattle.book.specs.declared.Translation.{Translation}
 use Rattle.book.proofs.Translated.{translated}
-use Rattle.step.specs.declared.RuleState.{RuleState}
+use Rattle.rule_state.specs.declared.RuleState.{RuleState}
 use Rattle.step.specs.Shows.{untouched, running}
 use Rattle.words.specs.Words.{noState, Held, Clean}
 use Rattle.opening.specs.Fresh.{freshState, freshHeld}
-use Rattle.monitor.specs.Promise.{seen, valuesOf, verdictIn, noModel, modelAt, Represents, Tracks, Form, inWords, Follows, Observes, Freshes, Run, done, more, CodeAgreement}
+use Rattle.monitor.specs.Promise.{seen, valuesOf, verdictIn, noModel, modelAt, Represents, Tracks, Form, inMemory, Follows, Observes, Freshes, Run, done, more, CodeAgreement}
 use Rattle.answers.specs.declared.Observation.{Observation}
 use Rattle.answers.specs.declared.Answer.{Answer}
 
@@ -75,7 +75,7 @@ module _ (S : Sheet) (formed : WellFormedSheet S) where
   fresh-represents = record {
     sixteen = refl;
     many = fresh-length (S .rules);
-    shows = λ z r h. untouched (ap (λ (st : RuleState). st .count) (getD-replicate 16 r freshState noState (small r h))) (fresh-at (S .rules) r noModel h);
+    shows = λ z r h. untouched (ap (λ (st : RuleState). getD (st .states) 0 0) (getD-replicate 16 r freshState noState (small r h))) (fresh-at (S .rules) r noModel h);
     time = refl;
     count = refl;
     verdict′ = refl;
@@ -84,8 +84,8 @@ module _ (S : Sheet) (formed : WellFormedSheet S) where
     due = λ z r. member-empty r ∙ sym (idle r);
   }
 
--- what the code's fresh monitor promises follows from what its words hold
-pub fresh-promise : {m : List ℕ} → Clean m freshHeld → Freshes inWords m
+-- what the code's fresh monitor promises follows from what its memory holds
+pub fresh-promise : {m : List ℕ} → Clean m freshHeld → Freshes inMemory m
 fresh-promise h = record {
   fits = h .holds .fits;
   holds = h .holds .held;

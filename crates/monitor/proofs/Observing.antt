@@ -34,7 +34,7 @@ use Rattle.words.specs.Words.{Held, heldBy}
 use Rattle.rules.specs.Pass.{Pass, passOf}
 use Rattle.answers.specs.Observe.{Observed, judgedBy, judgedOf, refusedOf, takenOf, lookedOf, observeOf, Leaves}
 use Rattle.answers.proofs.Verdicts.{judged-says}
-use Rattle.monitor.specs.Promise.{seen, valuesOf, verdictIn, noModel, modelAt, Represents, Tracks, inWords, Observes}
+use Rattle.monitor.specs.Promise.{seen, valuesOf, verdictIn, noModel, modelAt, Represents, Tracks, inMemory, Observes}
 use Rattle.answers.specs.declared.Observation.{Observation}
 use Rattle.answers.specs.declared.Observation.the-variants.{Event, Clock}
 use Rattle.answers.specs.declared.Answer.{Answer}
@@ -200,7 +200,7 @@ module _ (S : Sheet) (k : Kept) (b : Book) (m : Held) (f : Tracks S k b m) (o : 
 -- ---- the code
 
 -- what the code's observing promises follows from what it leaves
-pub promise : {table before : List ℕ} {o : Observation} {a : Answer} {after : List ℕ} → Leaves table before o a after → Observes inWords table before o a after
+pub promise : {table before : List ℕ} {o : Observation} {a : Answer} {after : List ℕ} → Leaves table before o a after → Observes inMemory table before o a after
 promise {before = before} {o} l = record {
   fits = λ f. l .gives f .holds .fits;
   holds = λ f i. record { monitor = l .gives f .holds .held i; answer = l .gives f .answer i };

@@ -12,7 +12,7 @@ use Rattle.pattern.specs.Meaning.{Rule, namesOf, broken, open′}
 use Rattle.pattern.specs.Judge as J
 use Rattle.pattern.specs.Model.{step, statusAt, inTime}
 use Rattle.pattern.specs.Model as M
-use Rattle.step.specs.declared.RuleState.{RuleState}
+use Rattle.rule_state.specs.declared.RuleState.{RuleState}
 use Rattle.step.specs.declared.Stepped.{Stepped}
 use Rattle.tables.specs.Cells.{HoldsRule}
 use Rattle.step.specs.declared.Standing.the-variants.{Due, Broken}

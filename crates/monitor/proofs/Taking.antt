@@ -21,11 +21,11 @@ use Rattle.layout.specs.Pages.{ruleAt}
 use Rattle.masks.specs.Masks.{maskN}
 use Rattle.masks.proofs.Members.{same-members, maskN-below, member-maskN, member-maskN-past}
 use Rattle.masks.proofs.Statuses.{member-mask, mask-below, member-mask-past}
-use Rattle.step.specs.declared.RuleState.{RuleState}
-use Rattle.fragment.specs.Upto.{length-mapN}
+use Rattle.rule_state.specs.declared.RuleState.{RuleState}
 use Rattle.tables.specs.Cells.{HoldsRule}
 use Rattle.step.specs.Shows.{Shows, running}
 use Rattle.step.proofs.Sound.{Sound}
+use Rattle.words.specs.Upto.{length-mapN}
 use Rattle.words.specs.Words.{noState}
 use Rattle.words.proofs.Places.{getD-mapN}
 use Rattle.rules.specs.Pass.{Pass, touched, stateAt, brokenAt, openAt, dueAt, passOf}

@@ -38,7 +38,7 @@ Says a m = valuesOf a ≡ verdictValues (verdictIn m)
 
 -- the state of rule r; numbers past the last rule's are not looked at
 abbrev pub noModel : M.RuleState
-noModel = record { fragment = 0; states = []; count = 0; end = 0 }
+noModel = record { fragment = 0; states = []; counts = []; end = 0 }
 
 abbrev pub modelAt : List M.RuleState → ℕ → M.RuleState
 modelAt sts r = getD sts r noModel
@@ -69,15 +69,15 @@ pub record Tracks (S : Sheet) (k : Kept) (b : Book) (m : Held) : Type 0 where
 
 -- ---- the promise, for every form of a monitor
 
--- a form: what a monitor of it holds; which values are of the form; and that nothing stands in bits of it that hold nothing
+-- a form: what a monitor of it holds; which values are of the form; and that nothing stands in bytes of it that hold nothing
 pub record Form (X : Type 0) : Type 1 where
   pub held : X → Held
   pub Fits : X → Type 0
   pub Blank : X → Type 0
 
--- in words: their type says how many, but a contract is not told the length of an array behind a reference
-abbrev pub inWords : Form (List ℕ)
-inWords = record { held = heldBy; Fits = Fits; Blank = Blank }
+-- in memory, as bytes: their type says how many, but a contract is not told the length of an array behind a reference
+abbrev pub inMemory : Form (List ℕ)
+inMemory = record { held = heldBy; Fits = Fits; Blank = Blank }
 
 module _ {X : Type 0} (F : Form X) where
   -- a monitor follows what the judge keeps, under the book of the sheet
@@ -94,7 +94,7 @@ module _ {X : Type 0} (F : Form X) where
     -- a refused observation leaves the monitor equal, and so does every observation after a break
     pub unchanged : valuesOf a .answer ≡ 3 → after ≡ before
     pub stopped : F .held before .verdict ≡ 2 → after ≡ before
-    -- one that is taken leaves nothing in bits that hold nothing, whatever stood there
+    -- one that is taken leaves nothing in bytes that hold nothing, whatever stood there
     pub blank : F .Fits before → (F .held before .verdict ≡ 2 → ⊥) → (valuesOf a .answer ≡ 3 → ⊥) → F .Blank after
     -- for any book with this table, of a well-formed sheet, and a monitor that follows what the judge keeps: the judge's next answer, and the monitor follows what the judge then keeps
     pub answers : (b : Book) → b .table ≡ table → (S : Sheet) (k : Kept) → Follows S k b before → (oracle : Oracle) → Right (S .rules) oracle → valuesOf a ≡ answerValues (judge oracle k (seen o) .answer)

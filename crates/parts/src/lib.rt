@@ -107,7 +107,7 @@ fn ranges(
 
 // A fragment's join and count of ranges as one number.
 fn fragment_word(join: u64, count: u64) -> u16
-    requires { ⌜ (join ≤ 1) × (count ≤ 8) ⌝ }
+    requires { ⌜ (join ≤ 3) × (count ≤ 8) ⌝ }
     ensures { λ r. ⌜ r ≡ join + 256 * count ⌝ }
 {
     (join + 256 * count) as u16

@@ -1,11 +1,13 @@
 -- What the other files use of Booleans and lists. Assumes nothing.
 use mathlib.Core.Path.{_≡_, refl, sym, _∙_, ap, subst}
 use mathlib.Core.Logic.{_⊎_, inl, inr, _≢_}
-use mathlib.Core.Bool.{Bool, true, false, not, _&&_, _||_}
+use mathlib.Core.Bool.{Bool, true, false, cond, not, _&&_, _||_}
 use mathlib.Core.List.{List, [], _∷_, _++_, map}
-use Prim.Native.Nat.{ℕ}
+use Prim.Native.Nat.{ℕ, zero, suc, _≤_}
+use native.Mathlib.Nat.{not-suc-le-zero}
 use native.Mathlib.Omega.{arith}
 use lib.Dec.{T, eqb, eqb→eq, T-not}
+use lib.ListN.{length, replicate}
 use borrow.Author.Tests.{eq-eqb}
 use Rattle.pattern.specs.Lists.{In, Distinct, Each, allOf, anyOf, isIn}
 
@@ -43,14 +45,27 @@ pub is-false : (b : Bool) → T (not b) → b ≡ false
 is-false true t = absurd t
 is-false false t = refl
 
+pub not-not : (b : Bool) → T (not (not b)) → T b
+not-not true t = tt
+not-not false t = t
+
 pub and-true-or : (b : Bool) → ((b || false) && true) ≡ b
 and-true-or true = refl
 and-true-or false = refl
+
+-- what holds of both branches holds of the one taken
+pub by-cond : {A : Type 0} (P : A → Type 0) (b : Bool) {x y : A} → P x → P y → P (cond b x y)
+by-cond P true h k = h
+by-cond P false h k = k
 
 -- a test has one of two results
 pub test : (b : Bool) → T b ⊎ T (not b)
 test true = inl tt
 test false = inr tt
+
+pub true-or-false : (b : Bool) → (b ≡ true) ⊎ (b ≡ false)
+true-or-false true = inl refl
+true-or-false false = inr refl
 
 pub same? : (m n : ℕ) → (m ≡ n) ⊎ (m ≢ n)
 same? m n = look (test (eqb m n))
@@ -58,6 +73,10 @@ same? m n = look (test (eqb m n))
     look : T (eqb m n) ⊎ T (not (eqb m n)) → (m ≡ n) ⊎ (m ≢ n)
     look (inl t) = inl (eqb→eq m n t)
     look (inr t) = inr (λ (e : m ≡ n). T-not (eqb m n) t (rw (eq-eqb m n e) tt))
+
+pub none-or-some : (k : ℕ) → (k ≡ 0) ⊎ (1 ≤ k)
+none-or-some zero = inl refl
+none-or-some (suc k) = inr (omega arith)
 
 -- ---- membership
 
@@ -69,6 +88,20 @@ module _ {A : Type 0} where
   pub in-right : (x : A) (a b : List A) → In x b → In x (a ++ b)
   in-right x [] b i = i
   in-right x (y ∷ a) b i = inr (in-right x a b i)
+
+  pub in-append : (x : A) (a b : List A) → In x (a ++ b) → In x a ⊎ In x b
+  in-append x [] b i = inr i
+  in-append x (y ∷ a) b (inl e) = inl (inl e)
+  in-append x (y ∷ a) b (inr i) = elim (in-append x a b i) [ inl k ↦ inl (inr k) | inr k ↦ inr k ]
+
+  pub in-replicate : (x y : A) (k : ℕ) → In x (replicate k y) → x ≡ y
+  in-replicate x y (suc k) (inl e) = e
+  in-replicate x y (suc k) (inr i) = in-replicate x y k i
+
+  -- a list that is not empty has an element
+  pub some-in : (xs : List A) → 1 ≤ length xs → (x : A) × In x xs
+  some-in [] h = absurd (not-suc-le-zero h)
+  some-in (x ∷ xs) h = (x, inl refl)
 
   pub distinct-left : (a b : List A) → Distinct (a ++ b) → Distinct a
   distinct-left [] b d = tt

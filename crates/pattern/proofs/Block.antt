@@ -1,159 +1,212 @@
--- Words of a fragment, as they are left to come: more of the block that has begun, then one block of each range of a choice of those that have not.
--- The join enters by one question only, whether a range may be left out, and a range's upper end by `AtMost`.
+-- A fragment's matches, range by range: a word on the fragment's names matches it exactly when each range is asked what the join asks of it, a total within its bounds, in a row unless shuffled, or none at all
+-- if it may be left out. The join enters by its two questions only, and a range's bounds by `Enough` and `AtMost`.
 -- Assumes nothing.
-use mathlib.Core.Path.{_≡_, refl, sym, _∙_, ap, subst}
+use mathlib.Core.Path.{_≡_, refl, sym, _∙_}
 use mathlib.Core.Logic.{_⊎_, inl, inr, _≢_}
-use mathlib.Core.Bool.{not}
-use mathlib.Core.List.{List, [], _∷_, _++_, nil≢cons, head-eq-of-cons-eq, tail-eq-of-cons-eq}
-use Prim.Native.Nat.{ℕ, zero, suc, _+_, _-_, _≤_}
-use native.Mathlib.Nat.{not-suc-le-zero, le-trans, le-refl}
+use mathlib.Core.Bool.{Bool, true, false}
+use mathlib.Core.List.{List, [], _∷_, _++_, map}
+use Prim.Native.Nat.{ℕ, zero, suc, _+_, _≤_}
+use native.Mathlib.Nat.{not-suc-le-zero, le-trans}
 use native.Mathlib.Omega.{arith}
 use lib.Dec.{T}
-use lib.ListN.{replicate}
+use lib.ListN.{length, replicate}
+use borrow.Author.Tests.{eq-eqb}
 use Rattle.pattern.specs.Lists.{In, Distinct}
-use Rattle.pattern.specs.Meaning.{Range, Join, all, any, Fragment, Enough, AtMost, Blocks, Chosen, MatchesFragment}
-use Rattle.pattern.specs.Recogniser.{mayBeLeftOut}
-use Rattle.pattern.proofs.Basics.{same?}
+use Rattle.pattern.specs.Meaning.{Range, Enough, AtMost, Block, Together, Blocks, Chosen, Fragment, mayBeLeftOut, shuffled, MatchesFragment}
+use Rattle.pattern.specs.Totals.{total}
+use Rattle.pattern.proofs.Basics.{same?, none-or-some, in-map, of-map}
+use Rattle.pattern.proofs.Totals.{row, less, total-together, total-same, total-other, total-in, in-total, row-block, row-past, less-same, less-total, less-row, less-length, less-in, split}
 
 -- fewer occurrences are not too many either
 pub fewer : (r : Range) {k l : ℕ} → k ≤ l → AtMost r l → AtMost r k
 fewer r h k = le-trans h k
 
--- one block of each range of a choice of those that are ready: of all, unless they may be left out
-pub record Choice (j : Join) (Ready : Range → Type 0) (w : List ℕ) : Type 0 where
-  pub order : List Range
-  pub once : Distinct order
-  pub ready : (r : Range) → In r order → Ready r
-  pub every : T (not (mayBeLeftOut j)) → (r : Range) → Ready r → In r order
-  pub blocks : Blocks order w
+abbrev pub Unique : List Range → Type 0
+Unique rs = (x y : Range) → In x rs → In y rs → x .name ≡ y .name → x ≡ y
 
--- c of r have come: more of it up to a block, and then a choice of the others
-pub record Parse (j : Join) (Ready : Range → Type 0) (r : Range) (c : ℕ) (w : List ℕ) : Type 0 where
-  pub k : ℕ
-  pub rest : List ℕ
-  pub parts : w ≡ replicate k (r .name) ++ rest
-  pub low : Enough r (c + k)
-  pub high : AtMost r (c + k)
-  pub choice : Choice j Ready rest
+-- the range occurs as often as it may, and in a row unless shuffled
+abbrev pub Occurs : Bool → Range → List ℕ → Type 0
+Occurs s r w = Enough r (total (r .name) w) × AtMost r (total (r .name) w) × (s ≡ false → T (row (r .name) w))
 
-pub choice-map : {j : Join} {Ready Ready′ : Range → Type 0} {w : List ℕ} → ((r : Range) → Ready r → Ready′ r) → ((r : Range) → Ready′ r → Ready r) → Choice j Ready w → Choice j Ready′ w
-choice-map to from c = record {
-  order = c .order;
-  once = c .once;
-  ready = λ r i. to r (c .ready r i);
-  every = λ t r h. c .every t r (from r h);
-  blocks = c .blocks;
-}
+-- what is asked of a word for one range
+abbrev pub Asks : Bool → Bool → Range → List ℕ → Type 0
+Asks o s r w = ((total (r .name) w ≡ 0) × T o) ⊎ Occurs s r w
 
--- the first event of a block: the range that it names is ready no more
-module _ (j : Join) (Ready Ready′ : Range → Type 0) (m : ℕ) (some : (r : Range) → Ready r → 1 ≤ r .u) (to : (r : Range) → Ready r → r .name ≢ m → Ready′ r) (from : (r : Range) → Ready′ r → Ready r × (r .name ≢ m)) (w : List ℕ) where
-  pub close-block : (r : Range) → Ready r → m ≡ r .name → ((x : Range) → Ready x → x .name ≡ m → x ≡ r) → Parse j Ready′ r 1 w → Choice j Ready (m ∷ w)
-  close-block r is e unique p = record {
-    order = r ∷ p .choice .order;
-    once = (λ (i : In r (p .choice .order)). from r (p .choice .ready r i) .1 (sym e), p .choice .once);
-    ready = ready;
-    every = λ t x h. every t x h (same? (x .name) m);
-    blocks = (replicate (suc (p .k)) (r .name), p .rest, cc (p .parts), (suc (p .k), omega (arith, p .low), fewer r (omega arith) (p .high), refl), p .choice .blocks);
-  }
-    where
-      ready : (x : Range) → In x (r ∷ p .choice .order) → Ready x
-      ready x (inl z) = subst Ready (sym z) is
-      ready x (inr i) = from x (p .choice .ready x i) .0
+-- what is asked of a word for the ranges of a fragment: o, a range may be left out; s, the blocks need not stand in a row
+pub record Asked (o s : Bool) (ranges : List Range) (w : List ℕ) : Type 0 where
+  pub on : (m : ℕ) → In m w → In m (map (λ (r : Range). r .name) ranges)
+  pub asks : (r : Range) → In r ranges → Asks o s r w
 
-      every : T (not (mayBeLeftOut j)) → (x : Range) → Ready x → (x .name ≡ m) ⊎ (x .name ≢ m) → In x (r ∷ p .choice .order)
-      every t x h (inl z) = inl (unique x h z)
-      every t x h (inr n) = inr (p .choice .every t x (to x h n))
+module _ (s : Bool) where
+  -- ---- blocks, as totals and rows
 
-  -- what the first event of a choice says
-  pub record Opened : Type 0 where
-    pub range : Range
-    pub ready : Ready range
-    pub named : m ≡ range .name
-    pub parse : ((x : Range) → Ready x → x .name ≡ m → x ≡ range) → Parse j Ready′ range 1 w
+  -- a word that is a block together with the rest: what it is to the block's range, and to another
+  module _ (x : Range) (a b w : List ℕ) (t : Together s a b w) (block : Block x a) where
+    concatenated : s ≡ false → w ≡ replicate (block .0) (x .name) ++ b
+    concatenated f = let c : w ≡ a ++ b = rw f at t in c ∙ rw (block .3)
 
-  pub open-block : Choice j Ready (m ∷ w) → Opened
-  open-block c = look (c .order) (c .once) (c .ready) (c .every) (c .blocks)
-    where
-      look : (order : List Range) → Distinct order → ((r : Range) → In r order → Ready r) → (T (not (mayBeLeftOut j)) → (r : Range) → Ready r → In r order) → Blocks order (m ∷ w) → Opened
-      look [] d ready every b = absurd (nil≢cons (sym b))
-      look (r ∷ order) d ready every (a, b, e, (zero, low, high, q), bs) = absurd (not-suc-le-zero (le-trans (some r (ready r (inl refl))) low))
-      look (r ∷ order) d ready every (a, b, e, (suc k, low, high, q), bs) =
-          let e′ : m ∷ w ≡ r .name ∷ (replicate k (r .name) ++ b) = e ∙ ap (λ (l : List ℕ). l ++ b) q in
-          let named : m ≡ r .name = head-eq-of-cons-eq e′ in
-          record {
-            range = r;
-            ready = ready r (inl refl);
-            named = named;
-            parse = λ unique. record {
-              k = k;
-              rest = b;
-              parts = tail-eq-of-cons-eq e′;
-              low = omega (arith, low);
-              high = fewer r (omega arith) high;
-              choice = record {
-                order = order;
-                once = d .1;
-                ready = λ x i. to x (ready x (inr i)) (λ (z : x .name ≡ m). d .0 (subst (λ (y : Range). In y order) (unique x (ready x (inr i)) z) i));
-                every = λ t x h. tail x (from x h .1) (every t x (from x h .0));
-                blocks = bs;
-              };
-            };
-          }
+    block-occurs : total (x .name) b ≡ 0 → Occurs s x w
+    block-occurs z =
+        let q : total (x .name) a ≡ block .0 = rw (block .3) (total-same (x .name) (block .0)) in
+        let e : total (x .name) w ≡ block .0 = total-together (x .name) s a b w t ∙ omega (arith, q, z) in
+        (rw e (block .1), rw e (block .2), λ f. rw (concatenated f) (row-block (x .name) (block .0) b z))
+
+    past-total : (n : ℕ) → x .name ≢ n → total n w ≡ total n b
+    past-total n d = let q : total n a ≡ 0 = rw (block .3) (total-other n (x .name) (block .0) d) in total-together n s a b w t ∙ omega (arith, q)
+
+    past-block : (r : Range) → x .name ≢ r .name → Occurs s r b → Occurs s r w
+    past-block r d (low, high, o) =
+        let e : total (r .name) w ≡ total (r .name) b = past-total (r .name) d in
+        (rw e low, rw e high, λ f. rw (concatenated f) (row-past (r .name) (block .0) (x .name) b d (o f)))
+
+  -- a name that occurs is that of a range of the choice
+  blocks-named : (choice : List Range) (w : List ℕ) (n : ℕ) → Blocks s choice w → 1 ≤ total n w → (r : Range) × In r choice × (n ≡ r .name)
+  blocks-named [] w n e l = absurd (let z : total n w ≡ 0 = rw e in omega (arith, z))
+  blocks-named (x ∷ rs) w n (a, b, t, block, bs) l = elim (same? (x .name) n) [
+    | inl e ↦ (x, inl refl, sym e)
+    | inr d ↦ let (r, i, q) = blocks-named rs b n bs (rw (past-total x a b w t block n d) at l) in (r, inr i, q)
+  ]
+
+  blocks-occur : (choice : List Range) (w : List ℕ) → Distinct choice → Unique choice → Blocks s choice w → (r : Range) → In r choice → Occurs s r w
+  blocks-occur (x ∷ rs) w d u (a, b, t, block, bs) r (inl e) = rw e (block-occurs x a b w t block (elim (none-or-some (total (x .name) b)) [
+    | inl z ↦ z
+    | inr l ↦ let (y, i, q) = blocks-named rs b (x .name) bs l in absurd (d .0 (rw (u x y (inl refl) (inr i) q) i))
+  ]))
+  blocks-occur (x ∷ rs) w d u (a, b, t, block, bs) r (inr i) =
+      let apart : x .name ≢ r .name = λ (q : x .name ≡ r .name). d .0 (rw (u x r (inl refl) (inr i) q) i) in
+      past-block x a b w t block r apart (blocks-occur rs b (d .1) (λ y z iy iz. u y z (inr iy) (inr iz)) bs r i)
+
+  -- ---- and back: the blocks in the order of their first events
+
+  pub record Spread (ready : List Range) (w : List ℕ) : Type 0 where
+    pub choice : List Range
+    pub once : Distinct choice
+    pub within : (r : Range) → In r choice → In r ready × (1 ≤ total (r .name) w)
+    pub every : (r : Range) → In r ready → 1 ≤ total (r .name) w → In r choice
+    pub blocks : Blocks s choice w
+
+  module _ (ready : List Range) (u : Unique ready) where
+    empty : Spread ready []
+    empty = record { choice = []; once = tt; within = λ r i. absurd i; every = λ r i h. absurd (not-suc-le-zero h); blocks = refl }
+
+    -- a word, the range that its first event is of, and the word without that name
+    module _ (r : Range) (i : In r ready) (w : List ℕ) (k : Asked true s ready (r .name ∷ w)) where
+      abbrev whole : List ℕ
+      whole = r .name ∷ w
+
+      abbrev rest : List ℕ
+      rest = less (r .name) (r .name ∷ w)
+
+      rest-asked : Asked true s ready rest
+      rest-asked = record { on = λ x h. k .on x (less-in (r .name) x whole h); asks = asks }
         where
-          tail : (x : Range) → x .name ≢ m → In x (r ∷ order) → In x order
-          tail x n (inl z) = absurd (n (ap (λ (y : Range). y .name) z ∙ sym (head-eq-of-cons-eq (e ∙ ap (λ (l : List ℕ). l ++ b) q))))
-          tail x n (inr i) = i
+          kept : (x : Range) → r .name ≢ x .name → Asks true s x whole → Asks true s x rest
+          kept x d (inl z) = inl (less-total (r .name) (x .name) d whole ∙ z .0, tt)
+          kept x d (inr (low, high, o)) =
+              let e : total (x .name) rest ≡ total (x .name) whole = less-total (r .name) (x .name) d whole in
+              inr (rw e low, rw e high, λ f. less-row (r .name) (x .name) d whole (o f))
 
--- ---- a choice with no event
+          asks : (x : Range) → In x ready → Asks true s x rest
+          asks x i = elim (same? (r .name) (x .name)) [ inl q ↦ inl (rw (← q) (less-same (r .name) whole), tt) | inr d ↦ kept x d (k .asks x i) ]
 
-pub choice-nil : (j : Join) (Ready : Range → Type 0) → (T (not (mayBeLeftOut j)) → (r : Range) → Ready r → ⊥) → Choice j Ready []
-choice-nil j Ready none = record { order = []; once = tt; ready = λ r i. absurd i; every = λ t r h. none t r h; blocks = refl }
+      here : 1 ≤ total (r .name) whole
+      here = total-in (r .name) whole (inl refl)
 
-pub blocks-nil : (order : List Range) → ((r : Range) → In r order → 1 ≤ r .u) → Blocks order [] → order ≡ []
-blocks-nil [] some b = refl
-blocks-nil (r ∷ order) some (a, b, e, (zero, low, high, q), bs) = absurd (not-suc-le-zero (le-trans (some r (inl refl)) low))
-blocks-nil (r ∷ order) some (a, b, e, (suc k, low, high, q), bs) = absurd (nil≢cons (e ∙ ap (λ (l : List ℕ). l ++ b) q))
+      occurs-first : Occurs s r whole
+      occurs-first = elim (k .asks r i) [ inl z ↦ absurd (let l = here in omega (arith, z .0)) | inr o ↦ o ]
 
-pub nil-choice : (j : Join) (Ready : Range → Type 0) → ((r : Range) → Ready r → 1 ≤ r .u) → Choice j Ready [] → T (not (mayBeLeftOut j)) → (r : Range) → Ready r → ⊥
-nil-choice j Ready some c t r h = subst (λ (l : List Range). In r l) (blocks-nil (c .order) (λ x i. some x (c .ready x i)) (c .blocks)) (c .every t r h)
+      first-block : Spread ready rest → Spread ready whole
+      first-block p = record {
+        choice = r ∷ p .choice;
+        once = ((λ ir. let l = p .within r ir .1 in let z = less-same (r .name) whole in omega arith), p .once);
+        within = inside;
+        every = every;
+        blocks = (replicate (total (r .name) whole) (r .name), rest, split (r .name) s w (occurs-first .2), (total (r .name) whole, occurs-first .0, occurs-first .1, refl), p .blocks);
+      }
+        where
+          inside : (x : Range) → In x (r ∷ p .choice) → In x ready × (1 ≤ total (x .name) whole)
+          inside x (inl q) = rw q (i, here)
+          inside x (inr ix) = let (ready-x, l) = p .within x ix in (ready-x, total-in (x .name) whole (less-in (r .name) (x .name) whole (in-total (x .name) rest l)))
 
--- ---- the shortest choice of the ranges of a list
+          every : (x : Range) → In x ready → 1 ≤ total (x .name) whole → In x (r ∷ p .choice)
+          every x ix l = elim (same? (r .name) (x .name)) [ inl q ↦ inl (u x r ix i (sym q)) | inr d ↦ inr (p .every x ix (rw (less-total (r .name) (x .name) d whole) l)) ]
 
-pub least : List Range → List ℕ
-least [] = []
-least (r ∷ rs) = replicate (r .u) (r .name) ++ least rs
+    abbrev Spreads : ℕ → Type 0
+    Spreads fuel = (w : List ℕ) → length w ≤ fuel → Asked true s ready w → Spread ready w
 
-pub least-blocks : (rs : List Range) → ((r : Range) → In r rs → AtMost r (r .u)) → Blocks rs (least rs)
-unfolding least
-least-blocks [] h = refl
-least-blocks (r ∷ rs) h = (replicate (r .u) (r .name), least rs, refl, (r .u, le-refl (r .u), h r (inl refl), refl), least-blocks rs (λ x i. h x (inr i)))
+    one-more : (fuel : ℕ) → Spreads fuel → Spreads (suc fuel)
+    one-more fuel shorter [] l k = empty
+    one-more fuel shorter (m ∷ w) l k =
+        let (r, i, e) = of-map (λ (r : Range). r .name) ready m (k .on m (inl refl)) in
+        let short : length (less (r .name) (r .name ∷ w)) ≤ fuel = rw (eq-eqb (r .name) (r .name) refl) (omega (arith, less-length (r .name) w)) in
+        rw e (first-block r i w (rw e at k) (shorter (less (r .name) (r .name ∷ w)) short (rest-asked r i w (rw e at k))))
 
--- ---- a fragment's matches are the choices of its ranges that have an event
+    spread : (fuel : ℕ) → Spreads fuel
+    spread zero [] l k = empty
+    spread zero (m ∷ w) l k = absurd (not-suc-le-zero l)
+    spread (suc fuel) w l k = one-more fuel (spread fuel) w l k
 
-module _ (f : Fragment) (some : (r : Range) → In r (f .ranges) → 1 ≤ r .u) where
-  abbrev pub InFragment : Range → Type 0
-  InFragment r = In r (f .ranges)
+-- ---- a fragment's matches
 
-  pub match→choice : (w : List ℕ) → MatchesFragment f w → Choice (f .join) InFragment w
-  match→choice w m = record { order = m .choice; once = m .once; ready = m .within; every = every (f .join) (m .chosen); blocks = m .blocks }
-    where
-      every : (j : Join) → Chosen j (f .ranges) (m .choice) → T (not (mayBeLeftOut j)) → (r : Range) → In r (f .ranges) → In r (m .choice)
-      every all h t r i = h r i
-      every any h t r i = absurd t
+module _ (f : Fragment) (u : Unique (f .ranges)) where
+  abbrev pub AskedOf : List ℕ → Type 0
+  AskedOf w = Asked (mayBeLeftOut (f .join)) (shuffled (f .join)) (f .ranges) w
 
-  pub choice→match : (m : ℕ) (w : List ℕ) → Choice (f .join) InFragment (m ∷ w) → MatchesFragment f (m ∷ w)
-  choice→match m w c = record { choice = c .order; once = c .once; within = c .ready; chosen = chosen (f .join) (c .every); blocks = c .blocks }
-    where
-      chosen : (j : Join) → (T (not (mayBeLeftOut j)) → (r : Range) → In r (f .ranges) → In r (c .order)) → Chosen j (f .ranges) (c .order)
-      chosen all h = h tt
-      chosen any h = λ (z : c .order ≡ []). nil≢cons (sym (rw z at (c .blocks)))
+  module _ (w : List ℕ) (h : MatchesFragment f w) where
+    occurs : (r : Range) → In r (h .choice) → Occurs (shuffled (f .join)) r w
+    occurs = blocks-occur (shuffled (f .join)) (h .choice) w (h .once) (λ x y ix iy e. u x y (h .within x ix) (h .within y iy) e) (h .blocks)
 
-  pub match-some : (x : Range) → In x (f .ranges) → MatchesFragment f [] → ⊥
-  match-some x i m = look (f .join) (m .chosen)
-    where
-      empty : m .choice ≡ []
-      empty = blocks-nil (m .choice) (λ r h. some r (m .within r h)) (m .blocks)
+    named : (n : ℕ) → 1 ≤ total n w → (r : Range) × In r (h .choice) × (n ≡ r .name)
+    named n = blocks-named (shuffled (f .join)) (h .choice) w n (h .blocks)
 
-      look : (j : Join) → Chosen j (f .ranges) (m .choice) → ⊥
-      look all h = subst (λ (l : List Range). In x l) empty (h x i)
-      look any h = h empty
+    pub match→asked : AskedOf w
+    match→asked = record { on = λ m i. let (r, k, e) = named m (total-in m w i) in rw e (in-map (λ (x : Range). x .name) (f .ranges) r (h .within r k)); asks = asks }
+      where
+        left-out : (r : Range) → In r (f .ranges) → total (r .name) w ≡ 0 → (o : Bool) → Chosen o (f .ranges) (h .choice) → Asks o (shuffled (f .join)) r w
+        left-out r i z false every = inr (occurs r (every r i))
+        left-out r i z true some = inl (z, tt)
+
+        asks : (r : Range) → In r (f .ranges) → Asks (mayBeLeftOut (f .join)) (shuffled (f .join)) r w
+        asks r i = elim (none-or-some (total (r .name) w)) [
+          | inl z ↦ left-out r i z (mayBeLeftOut (f .join)) (h .chosen)
+          | inr l ↦ let (x, k, e) = named (r .name) l in inr (occurs r (rw (u r x i (h .within x k) e) k))
+        ]
+
+  module _ (some : (r : Range) → In r (f .ranges) → 1 ≤ r .u) where
+    -- some range of it occurs
+    pub match-some : (w : List ℕ) → MatchesFragment f w → (x : Range) → In x (f .ranges) → w ≡ [] → ⊥
+    match-some w h x i e = chosen (mayBeLeftOut (f .join)) (h .chosen)
+      where
+        occurred : (r : Range) → In r (h .choice) → ⊥
+        occurred r k =
+            let l : r .u ≤ total (r .name) w = occurs w h r k .0 in
+            let z : total (r .name) w ≡ 0 = rw e in
+            omega (arith, some r (h .within r k))
+
+        one-of : (l : List Range) → l ≢ [] → (r : Range) × In r l
+        one-of [] d = absurd (d refl)
+        one-of (r ∷ l) d = (r, inl refl)
+
+        chosen : (o : Bool) → Chosen o (f .ranges) (h .choice) → ⊥
+        chosen false every = occurred x (every x i)
+        chosen true some-one = let (r, k) = one-of (h .choice) some-one in occurred r k
+
+    pub asked→match : (m : ℕ) (w : List ℕ) → AskedOf (m ∷ w) → MatchesFragment f (m ∷ w)
+    asked→match m w k = record { choice = p .choice; once = p .once; within = λ r i. p .within r i .0; chosen = chosen (mayBeLeftOut (f .join)) (k .asks); blocks = p .blocks }
+      where
+        weaker : (o : Bool) (r : Range) → Asks o (shuffled (f .join)) r (m ∷ w) → Asks true (shuffled (f .join)) r (m ∷ w)
+        weaker o r (inl z) = inl (z .0, tt)
+        weaker o r (inr z) = inr z
+
+        p : Spread (shuffled (f .join)) (f .ranges) (m ∷ w)
+        p = spread (shuffled (f .join)) (f .ranges) u (length (m ∷ w)) (m ∷ w) (omega arith) (record { on = k .on; asks = λ r i. weaker (mayBeLeftOut (f .join)) r (k .asks r i) })
+
+        pick : (r : Range) → In r (f .ranges) → Asks false (shuffled (f .join)) r (m ∷ w) → In r (p .choice)
+        pick r i (inl z) = absurd (z .1)
+        pick r i (inr z) = p .every r i (le-trans (some r i) (z .0))
+
+        chosen : (o : Bool) → ((r : Range) → In r (f .ranges) → Asks o (shuffled (f .join)) r (m ∷ w)) → Chosen o (f .ranges) (p .choice)
+        chosen false asks = λ r i. pick r i (asks r i)
+        chosen true asks = λ (z : p .choice ≡ []).
+            let (r, i, e) = of-map (λ (r : Range). r .name) (f .ranges) m (k .on m (inl refl)) in
+            rw z at (p .every r i (total-in (r .name) (m ∷ w) (inl (sym e))))

@@ -121,7 +121,8 @@ module _ (X : Recogniser) (L : Laws X) (π : Plan X) where
         close (e ∷ w) d = inr (k, d)
 
     -- a word of the stage, then a continuation
-    through : (C : Lang) (g : Stage X) (v : List ℕ) (s : X .St) (end now : ℕ) → T (timely X L π (g .afterP) end now) → ((m : ℕ) → T (X .has (g .frag) m) → T (π .on m)) → Takes X (g .frag) s v → Goes C (endAfter (g .afterP) end now v) now → Goes (Until X L π C g s) end now
+    through : (C : Lang) (g : Stage X) (v : List ℕ) (s : X .St) (end now : ℕ) → T (timely X L π (g .afterP) end now) → ((m : ℕ) → T (X .has (g .frag) m) → T (π .on m)) → Takes X (g .frag) s v
+        → Goes C (endAfter (g .afterP) end now v) now → Goes (Until X L π C g s) end now
     through C g [] s end now t o k c = stop C g s end now k c
     through C g (m ∷ v) s end now t o k c =
         let d = through C g v (X .step (g .frag) s m) (endOf X L π (g .afterP) end now) now (timely-next (g .afterP) end now t) o (k .1) c in
@@ -181,11 +182,13 @@ module _ (X : Recogniser) (L : Laws X) (π : Plan X) where
           look ([], k) = short k (h k)
           look (m ∷ v, k) = long t m v k
 
-      in-p← : (b : Bool) → inTime end now ≡ b → T (timely X L π (g .afterP) end now) → T (not (answers rest && X .closed (g .frag) s && not (X .grows (g .frag) s) && not b)) → Goes (Until X L π (Rest X L π l rest) g s) end now
+      in-p← : (b : Bool) → inTime end now ≡ b → T (timely X L π (g .afterP) end now) → T (not (answers rest && X .closed (g .frag) s && not (X .grows (g .frag) s) && not b))
+          → Goes (Until X L π (Rest X L π l rest) g s) end now
       in-p← true q t x = lives t (λ k. kept rest (inr (rw q tt)))
       in-p← false q t x = look (test (answers rest)) (test (X .closed (g .frag) s)) (test (X .grows (g .frag) s))
         where
-          look : T (answers rest) ⊎ T (not (answers rest)) → T (X .closed (g .frag) s) ⊎ T (not (X .closed (g .frag) s)) → T (X .grows (g .frag) s) ⊎ T (not (X .grows (g .frag) s)) → Goes (Until X L π (Rest X L π l rest) g s) end now
+          look : T (answers rest) ⊎ T (not (answers rest)) → T (X .closed (g .frag) s) ⊎ T (not (X .closed (g .frag) s)) → T (X .grows (g .frag) s) ⊎ T (not (X .grows (g .frag) s))
+              → Goes (Until X L π (Rest X L π l rest) g s) end now
           look (inr a) k n = lives t (λ k′. kept rest (inl a))
           look (inl a) (inr k) n = lives t (λ k′. absurd (T-not (X .closed (g .frag) s) k k′))
           look (inl a) (inl k) (inl n) = let (m, v, w) = L .more (g .frag) s sane k n in long t m v w

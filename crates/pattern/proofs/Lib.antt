@@ -1,8 +1,14 @@
 pub mod Basics
+pub mod Moves
+pub mod Totals
 pub mod Block
+pub mod Shuffled
 pub mod Running
 pub mod Rounds
 pub mod Fragment
+pub mod Product
+pub mod Fill
+pub mod Alive
 pub mod Deadline
 pub mod Orderings
 pub mod Rules
@@ -15,6 +21,7 @@ pub mod Tracks
 pub mod Traces
 pub mod Oracle
 pub mod Agreement
+pub mod Plain
 pub mod WellFormed
 pub mod Marked
 pub mod Consequences

@@ -10,7 +10,7 @@ use Rattle.pattern.specs.Lists.{In}
 use Rattle.pattern.specs.Judge.{Oracle, Right, Verdict, allWhole, someOpen, brokenAt, Answer, verdict, refused, nothing, judgeAnswers, judgeKeeps}
 use Rattle.pattern.specs.Model.{freshMonitor, answers, monitorAfter}
 use Rattle.pattern.specs.Agreement.{WellFormedRules}
-use Rattle.pattern.specs.Traces.{Row, marked, unmarked, misreadings, refusals, masks}
+use Rattle.pattern.specs.Traces.{Row, marked, unmarked, misreadings, refusals, masks, shuffledRows}
 use Rattle.pattern.proofs.Basics.{both-l, both-r, all→}
 use Rattle.pattern.proofs.WellFormed.{okRules, oks→}
 use Rattle.pattern.proofs.Agreement.{agreement}
@@ -66,8 +66,17 @@ module _ (row : Row) where
   abbrev finalVerdict : Verdict
   finalVerdict = monitorAfter (row .rules) (freshMonitor (row .rules)) (row .seen) .verdict
 
+  abbrev answers-so : Bool
+  answers-so = sameAnswer lastAnswer (row .answer)
+
+  abbrev takes-so : Bool
+  takes-so = eqb finalTaken (row .taken)
+
+  abbrev ends-so : Bool
+  ends-so = sameVerdict finalVerdict (row .verdict)
+
   abbrev right : Bool
-  right = okRules (row .rules) && (sameAnswer lastAnswer (row .answer) && (eqb finalTaken (row .taken) && sameVerdict finalVerdict (row .verdict)))
+  right = okRules (row .rules) && (answers-so && (takes-so && ends-so))
 
   -- ---- what a passed test says of the judge
 
@@ -80,21 +89,21 @@ module _ (row : Row) where
 
   settled : T right → Settled
   settled t =
-      let t₁ = both-r (okRules (row .rules)) (sameAnswer lastAnswer (row .answer) && (eqb finalTaken (row .taken) && sameVerdict finalVerdict (row .verdict))) t in
-      let t₂ = both-r (sameAnswer lastAnswer (row .answer)) (eqb finalTaken (row .taken) && sameVerdict finalVerdict (row .verdict)) t₁ in
-      let w : WellFormedRules (row .rules) = oks→ (row .rules) (both-l (okRules (row .rules)) (sameAnswer lastAnswer (row .answer) && (eqb finalTaken (row .taken) && sameVerdict finalVerdict (row .verdict))) t) in
+      let t₁ = both-r (okRules (row .rules)) (answers-so && (takes-so && ends-so)) t in
+      let t₂ = both-r answers-so (takes-so && ends-so) t₁ in
+      let w : WellFormedRules (row .rules) = oks→ (row .rules) (both-l (okRules (row .rules)) (answers-so && (takes-so && ends-so)) t) in
       let a = agreement (row .rules) w (row .seen) in
       record {
         exists = a .judged;
-        answer = λ o p. ap (lastOf (verdict allWhole)) (sym (a .agrees o p .answered)) ∙ answer→ lastAnswer (row .answer) (both-l (sameAnswer lastAnswer (row .answer)) (eqb finalTaken (row .taken) && sameVerdict finalVerdict (row .verdict)) t₁);
-        taken = λ o p. sym (a .agrees o p .taken) ∙ eqb→eq finalTaken (row .taken) (both-l (eqb finalTaken (row .taken)) (sameVerdict finalVerdict (row .verdict)) t₂);
-        verdict = λ o p. sym (a .agrees o p .verdict) ∙ verdict→ finalVerdict (row .verdict) (both-r (eqb finalTaken (row .taken)) (sameVerdict finalVerdict (row .verdict)) t₂);
+        answer = λ o p. ap (lastOf (verdict allWhole)) (sym (a .agrees o p .answered)) ∙ answer→ lastAnswer (row .answer) (both-l answers-so (takes-so && ends-so) t₁);
+        taken = λ o p. sym (a .agrees o p .taken) ∙ eqb→eq finalTaken (row .taken) (both-l takes-so ends-so t₂);
+        verdict = λ o p. sym (a .agrees o p .verdict) ∙ verdict→ finalVerdict (row .verdict) (both-r takes-so ends-so t₂);
       }
 
 -- ---- the whole table
 
 abbrev pub table : List Row
-table = marked ++ (unmarked ++ (misreadings ++ (refusals ++ masks)))
+table = marked ++ (unmarked ++ (misreadings ++ (refusals ++ (masks ++ shuffledRows))))
 
 pub settles : (row : Row) → In row table → Settled row
 settles row i = settled row (all→ right table tt row i)

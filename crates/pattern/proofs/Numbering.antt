@@ -11,7 +11,8 @@ use borrow.Author.Tests.{le-leb, lt-leb}
 use Rattle.pattern.specs.Meaning.{Fragment}
 use Rattle.pattern.specs.Model.{triggerFragment, lastFragments, roundOf, noFragment, isOnce, fragmentAt, isLast, afterP}
 use Rattle.pattern.proofs.Rounds.{Stage, round, ended}
-use Rattle.pattern.proofs.Fragment.{X, laws, Checked}
+use Rattle.pattern.proofs.Fragment.{X, Checked}
+use Rattle.pattern.proofs.Alive.{laws}
 use Rattle.pattern.proofs.Orderings.{stages, fragments}
 use Rattle.pattern.proofs.Rules.{CheckedRule, CheckedKind, once′, repeated′, timed′, kindOf, ruleOf, answering, endingOf, planOf}
 
@@ -97,7 +98,8 @@ module _ (c : CheckedRule) where
     pub last-is : isLast (ruleOf c) n ≡ ended X laws (planOf c) (endingOf (c .kind)) rest
     last-is = look (c .kind) rest (drop-length n stagesOf g rest at-n) length-round
       where
-        look : (k : CheckedKind) (gs : List (Stage X)) → length stagesOf ≡ n + suc (length gs) → length (roundOf (ruleOf c)) ≡ length stagesOf + length (extra k) → leb (length (roundOf (ruleOf c))) (suc n) ≡ ended X laws (planOf c) (endingOf k) gs
+        look : (k : CheckedKind) (gs : List (Stage X)) → length stagesOf ≡ n + suc (length gs) → length (roundOf (ruleOf c)) ≡ length stagesOf + length (extra k)
+            → leb (length (roundOf (ruleOf c))) (suc n) ≡ ended X laws (planOf c) (endingOf k) gs
         look (once′ i) [] e e′ = lt-leb (length (roundOf (ruleOf c))) (suc n) (omega (arith, e, e′))
         look (once′ i) (x ∷ gs) e e′ = lt-leb (length (roundOf (ruleOf c))) (suc n) (omega (arith, e, e′))
         look (repeated′ i) [] e e′ = le-leb (length (roundOf (ruleOf c))) (suc n) (omega (arith, e, e′))
@@ -108,7 +110,8 @@ module _ (c : CheckedRule) where
     pub not-released : (isOnce (ruleOf c .kind) && afterP (ruleOf c) n) ≡ false
     not-released = look (c .kind) (drop-length n stagesOf g rest at-n) (length-stages false (c .p ∷ c .ps) (stages true (answering (c .kind)) ++ []))
       where
-        look : (k : CheckedKind) → length stagesOf ≡ n + suc (length rest) → length stagesOf ≡ length (fragments (c .p ∷ c .ps)) + length (stages true (answering k) ++ []) → (isOnce (kindOf k) && leb (length (fragments (c .p ∷ c .ps))) n) ≡ false
+        look : (k : CheckedKind) → length stagesOf ≡ n + suc (length rest) → length stagesOf ≡ length (fragments (c .p ∷ c .ps)) + length (stages true (answering k) ++ [])
+            → (isOnce (kindOf k) && leb (length (fragments (c .p ∷ c .ps))) n) ≡ false
         look (once′ i) e e′ = lt-leb (length (fragments (c .p ∷ c .ps))) n (omega (arith, e, e′))
         look (repeated′ i) e e′ = refl
         look (timed′ q qs t) e e′ = refl

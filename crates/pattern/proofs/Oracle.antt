@@ -33,7 +33,7 @@ tracks-own r trace st (clock t) h = rw append-nil h
 
 tracks-all : (r : Rule) (os : List Observation) (trace : List Event) (st : RuleState) → Tracks r trace st → Tracks r (trace ++ traceOf r os) (stateAfter r st os)
 tracks-all r [] trace st h = rw append-nil h
-tracks-all r (o ∷ os) trace st h = subst (λ (l : List Event). Tracks r l (stateAfter r (after r st o) os)) (append-assoc trace (own r o) (traceOf r os)) (tracks-all r os (trace ++ own r o) (after r st o) (tracks-own r trace st o h))
+tracks-all r (o ∷ os) trace st h = rw append-assoc at (tracks-all r os (trace ++ own r o) (after r st o) (tracks-own r trace st o h))
 
 pub right-oracle : (rules : List Rule) → Each WellFormed rules → Right rules (modelOracle rules)
 right-oracle [] w os n = tt
@@ -117,5 +117,6 @@ module _ (rules : List Rule) (a b : Oracle) (p : Right rules a) (q : Right rules
       )
 
 -- one answer for each input, whatever right oracle the judge asks
-pub one-judge : (rules : List Rule) (a b : Oracle) → Right rules a → Right rules b → (os : List Observation) → (judgeAnswers a nothing os ≡ judgeAnswers b nothing os) × (judgeKeeps a nothing os ≡ judgeKeeps b nothing os)
+pub one-judge : (rules : List Rule) (a b : Oracle) → Right rules a → Right rules b → (os : List Observation)
+    → (judgeAnswers a nothing os ≡ judgeAnswers b nothing os) × (judgeKeeps a nothing os ≡ judgeKeeps b nothing os)
 one-judge rules a b p q os = same-answers rules a b p q os nothing tt

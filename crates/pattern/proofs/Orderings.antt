@@ -9,7 +9,9 @@ use native.Mathlib.Nat.{le-trans, le-refl}
 use lib.Dec.{T}
 use Rattle.pattern.specs.Meaning.{Event, names, Fragment, MatchesOrdering, lastTime, Rounds, Rising}
 use Rattle.pattern.proofs.Rounds.{Takes, Stage, Plan, Lang, timely, endOf, Until, Seq, Turns, round}
-use Rattle.pattern.proofs.Fragment.{X, laws, Held, Checked, match→, match←}
+use Rattle.pattern.proofs.Fragment.{X, Held, Checked}
+use Rattle.pattern.proofs.Product.{match→, match←}
+use Rattle.pattern.proofs.Alive.{laws}
 
 -- the stages of an ordering, of P or of Q
 abbrev pub stages : Bool → List Checked → List (Stage X)
@@ -118,12 +120,14 @@ module _ (π : Plan X) where
 
     -- ---- an ordering
 
-    pub seq→ : (fs : List Checked) (gs : List (Stage X)) (K : Lang) (end : ℕ) (v w : List Event) → MatchesOrdering (fragments fs) v → AllTimely a end v → Seq X laws π gs K (endAfter a end v) w → Seq X laws π (stages a fs ++ gs) K end (v ++ w)
+    pub seq→ : (fs : List Checked) (gs : List (Stage X)) (K : Lang) (end : ℕ) (v w : List Event) → MatchesOrdering (fragments fs) v → AllTimely a end v → Seq X laws π gs K (endAfter a end v) w
+        → Seq X laws π (stages a fs ++ gs) K end (v ++ w)
     seq→ [] gs K end v w m i h = rw m (rw m at h)
     seq→ (f ∷ fs) gs K end v w (v₁, v₂, e, m, ms) i h =
         let i′ : AllTimely a end (v₁ ++ v₂) = rw e at i in
         let h′ : Seq X laws π gs K (endAfter a (endAfter a end v₁) v₂) w = rw (e, end-append) at h in
-        rw (e, append-assoc) (until→ (Seq X laws π (stages a fs ++ gs) K) f v₁ (v₂ ++ w) (X .start f) end (match→ f (names v₁) m) (timely-left end v₁ v₂ i′) (seq→ fs gs K (endAfter a end v₁) v₂ w ms (timely-right end v₁ v₂ i′) h′))
+        let later : Seq X laws π (stages a fs ++ gs) K (endAfter a end v₁) (v₂ ++ w) = seq→ fs gs K (endAfter a end v₁) v₂ w ms (timely-right end v₁ v₂ i′) h′ in
+        rw (e, append-assoc) (until→ (Seq X laws π (stages a fs ++ gs) K) f v₁ (v₂ ++ w) (X .start f) end (match→ f (names v₁) m) (timely-left end v₁ v₂ i′) later)
 
     pub seq← : (fs : List Checked) (gs : List (Stage X)) (K : Lang) (end : ℕ) (w : List Event) → Seq X laws π (stages a fs ++ gs) K end w → Cut (MatchesOrdering (fragments fs)) (Seq X laws π gs K) end w
     seq← [] gs K end w h = record { front = []; back = w; parts = refl; holds = refl; timely = tt; rest = h }
@@ -171,10 +175,11 @@ module _ (π : Plan X) (p : Checked) (ps qs : List Checked) (plan : round X laws
   rounds← glue (suc n) end w h =
       let k = seq← π false (p ∷ ps) (stages true qs ++ []) (Turns X laws π n) end w (subst (λ (l : List (Stage X)). Seq X laws π l (Turns X laws π n) end w) plan h) in
       let m = seq← π true qs [] (Turns X laws π n) (endAfter π false end (k .front)) (k .back) (k .rest) in
-      let v = k .front in (
+      let v = k .front in
+      let timely : AllTimely π true (lastTime 0 v) (m .front) = subst (λ (x : ℕ). AllTimely π true x (m .front)) (end-p π end v ∙ last-any end 0 v (ordering-some p ps v (k .holds))) (m .timely) in (
         v ++ m .front,
         m .back,
         k .parts ∙ ap (λ (l : List Event). v ++ l) (m .parts) ∙ sym (append-assoc v (m .front) (m .back)),
-        glue (v ++ m .front) (record { first = v; second = m .front; parts = refl; ordered = k .holds; answered = m .holds; timely = subst (λ (x : ℕ). AllTimely π true x (m .front)) (end-p π end v ∙ last-any end 0 v (ordering-some p ps v (k .holds))) (m .timely) }),
+        glue (v ++ m .front) (record { first = v; second = m .front; parts = refl; ordered = k .holds; answered = m .holds; timely = timely }),
         rounds← glue n (endAfter π true (endAfter π false end v) (m .front)) (m .back) (m .rest),
       )

@@ -115,7 +115,9 @@ module _ (X : Recogniser) (L : Laws X) (π : Plan X) where
 
   pull-seq : (C : ℕ → Lang) (gs : List (Stage X)) (end : ℕ) (w : List Event) → Seq gs (λ end′ w′. (n : ℕ) × C n end′ w′) end w → (n : ℕ) × Seq gs (C n) end w
   pull-seq C [] end w h = h
-  pull-seq C (g ∷ gs) end w h = pull-until (λ n. Seq gs (C n)) g (X .start (g .frag)) end w (map-until (Seq gs (λ end′ w′. (n : ℕ) × C n end′ w′)) (λ end′ w′. (n : ℕ) × Seq gs (C n) end′ w′) (pull-seq C gs) g (X .start (g .frag)) end w h)
+  pull-seq C (g ∷ gs) end w h =
+      let pulled = map-until (Seq gs (λ end′ w′. (n : ℕ) × C n end′ w′)) (λ end′ w′. (n : ℕ) × Seq gs (C n) end′ w′) (pull-seq C gs) g (X .start (g .frag)) end w h in
+      pull-until (λ n. Seq gs (C n)) g (X .start (g .frag)) end w pulled
 
   -- rounds are nothing, or a round and then rounds
   pub repeat→ : (end : ℕ) (w : List Event) → Repeat end w → (w ≡ []) ⊎ Seq round Repeat end w
@@ -323,7 +325,11 @@ module _ (X : Recogniser) (L : Laws X) (π : Plan X) where
   cond-fits l false x h = tt
 
   begin-fits : (l : Ending) (g : Stage X) (gs : List (Stage X)) (end : ℕ) (e : Event) → Chain l (g ∷ gs) → Fits l (begin g gs end e)
-  begin-fits l g gs end e c = cond-fits l (X .has (g .frag) (e .name) && timely (g .afterP) end (e .time)) (at g (X .step (g .frag) (X .start (g .frag)) (e .name)) gs (endOf (g .afterP) end (e .time))) (λ b. (c, L .first (g .frag) (e .name) (both-l (X .has (g .frag) (e .name)) (timely (g .afterP) end (e .time)) b)))
+  begin-fits l g gs end e c =
+      let named : Bool = X .has (g .frag) (e .name) in
+      let timed : Bool = timely (g .afterP) end (e .time) in
+      let s : X .St = X .step (g .frag) (X .start (g .frag)) (e .name) in
+      cond-fits l (named && timed) (at g s gs (endOf (g .afterP) end (e .time))) (λ b. (c, L .first (g .frag) (e .name) (both-l named timed b)))
 
   enter-fits : (l : Ending) (gs : List (Stage X)) (end : ℕ) (e : Event) → Chain l round → Chain l gs → Fits l (enter l gs end e)
   enter-fits again [] end e c d = begin-fits again (π .first) (π .others) end e c
@@ -337,7 +343,10 @@ module _ (X : Recogniser) (L : Laws X) (π : Plan X) where
   go-fits l (at g s rest end) e c f = look (X .has (g .frag) (e .name)) refl
     where
       look : (b : Bool) → X .has (g .frag) (e .name) ≡ b → Fits l (go l (at g s rest end) e)
-      look true q = rw q (cond-fits l (timely (g .afterP) end (e .time) && X .good (g .frag) (X .step (g .frag) s (e .name))) (at g (X .step (g .frag) s (e .name)) rest (endOf (g .afterP) end (e .time))) (λ b. (f .0, L .next (g .frag) s (e .name) (f .1) (rw q tt) (both-r (timely (g .afterP) end (e .time)) (X .good (g .frag) (X .step (g .frag) s (e .name))) b))))
+      look true q =
+          let timed : Bool = timely (g .afterP) end (e .time) in
+          let s′ : X .St = X .step (g .frag) s (e .name) in
+          rw q (cond-fits l (timed && X .good (g .frag) s′) (at g s′ rest (endOf (g .afterP) end (e .time))) (λ b. (f .0, L .next (g .frag) s (e .name) (f .1) (rw q tt) (both-r timed (X .good (g .frag) s′) b))))
       look false q = rw q (cond-fits l (X .closed (g .frag) s) (enter l rest end e) (λ b. enter-fits l rest end e c (f .0 .3)))
 
   abbrev pub run : Ending → Place X → List Event → Place X

@@ -13,7 +13,9 @@ use Rattle.pattern.specs.Meaning.{Event, names, Range, fragmentNames, or
 use Rattle.pattern.specs.Model.{triggerFragment, inTime}
 use Rattle.pattern.proofs.Basics.{is-true, either, in-left, in-right, distinct-left, distinct-right, distinct-apart, isIn→, isIn←}
 use Rattle.pattern.proofs.Rounds.{Takes, Stage, Plan, Ending, again, release, fresh, repeat→, repeat←, OnNames, Triggered, After, To, BeginsLast, Apart, follows, Chain, round}
-use Rattle.pattern.proofs.Fragment.{X, laws, Checked, match→}
+use Rattle.pattern.proofs.Fragment.{X, Checked}
+use Rattle.pattern.proofs.Product.{match→}
+use Rattle.pattern.proofs.Alive.{laws}
 use Rattle.pattern.proofs.Orderings.{stages, fragments, rising-last, rising-right, AllTimely, seq→, seq←, timely-p, Round, rounds→, rounds←}
 
 -- ---- rules whose fragments are checked
@@ -128,7 +130,9 @@ module _ (p : Checked) (ps : List Checked) (q : Checked) (qs : List Checked) (t 
   in-time→ s v (e ∷ w) r h = all-in (lastTime 0 v) s (e ∷ w) r h
 
   cut₂ : (s : ℕ) (w : List Event) → Rising s w → TimedRound (fragments (p ∷ ps)) (fragments (q ∷ qs)) t w → Round π₂ (p ∷ ps) (q ∷ qs) w
-  cut₂ s w r o = record { first = o .first; second = o .second; parts = o .parts; ordered = o .ordered; answered = o .answered; timely = in-time→ (lastTime s (o .first)) (o .first) (o .second) (rising-right s (o .first) (o .second) (subst (λ (l : List Event). Rising s l) (o .parts) r)) (o .inTime) }
+  cut₂ s w r o =
+      let later : Rising (lastTime s (o .first)) (o .second) = rising-right s (o .first) (o .second) (subst (λ (l : List Event). Rising s l) (o .parts) r) in
+      record { first = o .first; second = o .second; parts = o .parts; ordered = o .ordered; answered = o .answered; timely = in-time→ (lastTime s (o .first)) (o .first) (o .second) later (o .inTime) }
 
   glue₂ : (w : List Event) → Round π₂ (p ∷ ps) (q ∷ qs) w → TimedRound (fragments (p ∷ ps)) (fragments (q ∷ qs)) t w
   glue₂ w o = record { first = o .first; second = o .second; parts = o .parts; ordered = o .ordered; answered = o .answered; inTime = last-in (lastTime 0 (o .first)) 0 (o .second) (o .timely) (omega arith) }
@@ -159,9 +163,11 @@ module _ (p : Checked) (ps : List Checked) where
   match→start (once′ i) w r (inr m) =
       let o = m .triggered in
       let e : w ≡ o .first ++ (o .trigger ∷ m .after) = m .parts ∙ ap (λ (l : List Event). l ++ m .after) (o .parts) ∙ append-assoc (o .first) (o .trigger ∷ []) (m .after) in
-      inr (rw e (seq→ (π (once′ i)) false (p ∷ ps) [] (After X laws (π (once′ i)) (release i)) 0 (o .first) (o .trigger ∷ m .after) (o .ordered) (timely-p (π (once′ i)) 0 (o .first)) (subst (λ (n : ℕ). T (eqb n i)) (sym (o .named)) (eqb-refl i), on→ (rule (once′ i)) (m .after) (m .on))))
+      let t : Triggered X laws (π (once′ i)) i (o .trigger ∷ m .after) = (subst (λ (n : ℕ). T (eqb n i)) (sym (o .named)) (eqb-refl i), on→ (rule (once′ i)) (m .after) (m .on)) in
+      inr (rw e (seq→ (π (once′ i)) false (p ∷ ps) [] (After X laws (π (once′ i)) (release i)) 0 (o .first) (o .trigger ∷ m .after) (o .ordered) (timely-p (π (once′ i)) 0 (o .first)) t))
   match→start (repeated′ i) w r (n, m) = repeat→ X laws (π (repeated′ i)) 0 w (n, rounds→ (π (repeated′ i)) p ps (trigger i ∷ []) refl (TriggeredRound (fragments (p ∷ ps)) i) (λ s v r′ o. cut₁ p ps i v o) n 0 0 w r m)
-  match→start (timed′ q qs t) w r (n, m) = repeat→ X laws (π (timed′ q qs t)) 0 w (n, rounds→ (π (timed′ q qs t)) p ps (q ∷ qs) refl (TimedRound (fragments (p ∷ ps)) (fragments (q ∷ qs)) t) (cut₂ p ps q qs t) n 0 0 w r m)
+  match→start (timed′ q qs t) w r (n, m) =
+      repeat→ X laws (π (timed′ q qs t)) 0 w (n, rounds→ (π (timed′ q qs t)) p ps (q ∷ qs) refl (TimedRound (fragments (p ∷ ps)) (fragments (q ∷ qs)) t) (cut₂ p ps q qs t) n 0 0 w r m)
 
   start→match : (k : CheckedKind) (w : List Event) → FromStart k w → MatchesKind (ruleOf (rule k)) (kindOf k) w
   start→match (once′ i) w (inl e) = inl e
@@ -179,7 +185,9 @@ module _ (p : Checked) (ps : List Checked) where
         on = on← (rule (once′ i)) b o;
       }
   start→match (repeated′ i) w h = let (n, m) = repeat← X laws (π (repeated′ i)) 0 w h in (n, rounds← (π (repeated′ i)) p ps (trigger i ∷ []) refl (TriggeredRound (fragments (p ∷ ps)) i) (glue₁ p ps i) n 0 w m)
-  start→match (timed′ q qs t) w h = let (n, m) = repeat← X laws (π (timed′ q qs t)) 0 w h in (n, rounds← (π (timed′ q qs t)) p ps (q ∷ qs) refl (TimedRound (fragments (p ∷ ps)) (fragments (q ∷ qs)) t) (glue₂ p ps q qs t) n 0 w m)
+  start→match (timed′ q qs t) w h =
+      let (n, m) = repeat← X laws (π (timed′ q qs t)) 0 w h in
+      (n, rounds← (π (timed′ q qs t)) p ps (q ∷ qs) refl (TimedRound (fragments (p ∷ ps)) (fragments (q ∷ qs)) t) (glue₂ p ps q qs t) n 0 w m)
 
 pub matches→ : (c : CheckedRule) (w : List Event) → Rising 0 w → Matches (ruleOf c) w → To X laws (planOf c) (endingOf (c .kind)) fresh w
 matches→ c = match→start (c .p) (c .ps) (c .kind)
@@ -235,7 +243,8 @@ module _ (π : Plan X) where
   later g [] o = tt
   later g (h ∷ gs) o = o .1
 
-  chain : (l : Ending) (gs : List (Stage X)) → Distinct (stageNames gs) → Ordered gs → ((m : ℕ) → In m (stageNames gs) → T (π .on m)) → ((m : ℕ) → In m (stageNames gs) → BeginsLast X laws π l m → ⊥) → Chain X laws π l [] → Chain X laws π l gs
+  chain : (l : Ending) (gs : List (Stage X)) → Distinct (stageNames gs) → Ordered gs → ((m : ℕ) → In m (stageNames gs) → T (π .on m)) → ((m : ℕ) → In m (stageNames gs) → BeginsLast X laws π l m → ⊥)
+      → Chain X laws π l [] → Chain X laws π l gs
   chain l [] d o c z k = k
   chain l (g ∷ gs) d o c z k = (
     apart l g gs d (λ e m i. z m (in-left m (namesIn g) (stageNames gs) i)),
@@ -252,7 +261,8 @@ module _ (π : Plan X) where
         apart again g gs d (λ e. absurd (n e)),
         follows-on g gs o,
         (λ m h. c m (in-left m (namesIn g) (stageNames gs) (isIn→ m (namesIn g) h))),
-        chain again gs (distinct-right (namesIn g) (stageNames gs) d) (later g gs o) (λ m i. c m (in-right m (namesIn g) (stageNames gs) i)) (λ m i b. distinct-apart m (namesIn g) (stageNames gs) d (isIn→ m (namesIn g) b) i) tt,
+        chain again gs (distinct-right (namesIn g) (stageNames gs) d) (later g gs o)
+            (λ m i. c m (in-right m (namesIn g) (stageNames gs) i)) (λ m i b. distinct-apart m (namesIn g) (stageNames gs) d (isIn→ m (namesIn g) b) i) tt,
       )
 
 some-stage : (fs : List Checked) (q : Checked) (qs : List Checked) → stages false fs ++ (stages true (q ∷ qs) ++ []) ≢ []
@@ -260,21 +270,38 @@ some-stage [] q qs = λ e. nil≢cons (sym e)
 some-stage (f ∷ fs) q qs = λ e. nil≢cons (sym e)
 
 plan-names : (p : Checked) (ps : List Checked) (k : CheckedKind) → stageNames (stages false (p ∷ ps) ++ (stages true (answering k) ++ [])) ≡ orderingNames (fragments (p ∷ ps)) ++ orderingNames (fragments (answering k))
-plan-names p ps k = stage-names false (p ∷ ps) (stages true (answering k) ++ []) ∙ ap (λ (l : List ℕ). orderingNames (fragments (p ∷ ps)) ++ l) (stage-names true (answering k) [] ∙ append-nil (orderingNames (fragments (answering k))))
+plan-names p ps k =
+    stage-names false (p ∷ ps) (stages true (answering k) ++ [])
+    ∙ ap (λ (l : List ℕ). orderingNames (fragments (p ∷ ps)) ++ l) (stage-names true (answering k) [] ∙ append-nil (orderingNames (fragments (answering k))))
 
 module _ (p : Checked) (ps : List Checked) where
-  chain-timed : (k : CheckedKind) (q : Checked) (qs : List Checked) → answering k ≡ q ∷ qs → orderingNames (fragments (p ∷ ps)) ++ orderingNames (fragments (answering k)) ≡ namesOf (ruleOf (record { p = p; ps = ps; kind = k })) → Distinct (namesOf (ruleOf (record { p = p; ps = ps; kind = k }))) → Chain X laws (planOf (record { p = p; ps = ps; kind = k })) again (stages false (p ∷ ps) ++ (stages true (answering k) ++ []))
-  chain-timed k q qs e e′ d =
-      let c : CheckedRule = record { p = p; ps = ps; kind = k } in
-      let n = plan-names p ps k ∙ e′ in
-      chain-again (planOf c) (subst (λ (l : List Checked). stages false ps ++ (stages true l ++ []) ≢ []) (sym e) (some-stage ps q qs)) (subst (λ (l : List ℕ). Distinct l) (sym n) d) (ordered (p ∷ ps) (stages true (answering k) ++ []) (ordered-q (answering k))) (λ m i. isIn← m (namesOf (ruleOf c)) (subst (λ (l : List ℕ). In m l) n i))
+  abbrev with : CheckedKind → CheckedRule
+  with k = record { p = p; ps = ps; kind = k }
 
-  chains : (k : CheckedKind) → Distinct (namesOf (ruleOf (record { p = p; ps = ps; kind = k }))) → Chain X laws (planOf (record { p = p; ps = ps; kind = k })) (endingOf k) (stages false (p ∷ ps) ++ (stages true (answering k) ++ []))
+  abbrev names-p : List ℕ
+  names-p = orderingNames (fragments (p ∷ ps))
+
+  abbrev planStages : CheckedKind → List (Stage X)
+  planStages k = stages false (p ∷ ps) ++ (stages true (answering k) ++ [])
+
+  chain-timed : (k : CheckedKind) (q : Checked) (qs : List Checked) → answering k ≡ q ∷ qs → names-p ++ orderingNames (fragments (answering k)) ≡ namesOf (ruleOf (with k)) → Distinct (namesOf (ruleOf (with k)))
+      → Chain X laws (planOf (with k)) again (planStages k)
+  chain-timed k q qs e e′ d =
+      let n : stageNames (planStages k) ≡ namesOf (ruleOf (with k)) = plan-names p ps k ∙ e′ in
+      let some : stages false ps ++ (stages true (answering k) ++ []) ≢ [] = subst (λ (l : List Checked). stages false ps ++ (stages true l ++ []) ≢ []) (sym e) (some-stage ps q qs) in
+      let once : Distinct (stageNames (planStages k)) = subst (λ (l : List ℕ). Distinct l) (sym n) d in
+      chain-again (planOf (with k)) some once (ordered (p ∷ ps) (stages true (answering k) ++ []) (ordered-q (answering k))) (λ m i. isIn← m (namesOf (ruleOf (with k))) (subst (λ (l : List ℕ). In m l) n i))
+
+  chains : (k : CheckedKind) → Distinct (namesOf (ruleOf (with k))) → Chain X laws (planOf (with k)) (endingOf k) (planStages k)
   chains (once′ i) d =
-      let c : CheckedRule = record { p = p; ps = ps; kind = once′ i } in
-      let names-p : List ℕ = orderingNames (fragments (p ∷ ps)) in
-      let n = plan-names p ps (once′ i) ∙ append-nil (orderingNames (fragments (p ∷ ps))) in
-      chain (planOf c) (release i) (stages false (p ∷ ps) ++ []) (subst (λ (l : List ℕ). Distinct l) (sym n) (distinct-left names-p (i ∷ []) d)) (ordered (p ∷ ps) [] tt) (λ m x. isIn← m (namesOf (ruleOf c)) (in-left m names-p (i ∷ []) (subst (λ (l : List ℕ). In m l) n x))) (λ m x b. distinct-apart m names-p (i ∷ []) d (subst (λ (l : List ℕ). In m l) n x) (inl (eqb→eq m i b))) (isIn← i (namesOf (ruleOf c)) (in-right i names-p (i ∷ []) (inl refl)))
+      let c : CheckedRule = with (once′ i) in
+      let n : stageNames (stages false (p ∷ ps) ++ []) ≡ names-p = plan-names p ps (once′ i) ∙ append-nil names-p in
+      let once : Distinct (stageNames (stages false (p ∷ ps) ++ [])) = subst (λ (l : List ℕ). Distinct l) (sym n) (distinct-left names-p (i ∷ []) d) in
+      let of-p : (m : ℕ) → In m (stageNames (stages false (p ∷ ps) ++ [])) → In m names-p = λ m x. subst (λ (l : List ℕ). In m l) n x in
+      chain (planOf c) (release i) (stages false (p ∷ ps) ++ []) once (ordered (p ∷ ps) [] tt)
+      (λ m x. isIn← m (namesOf (ruleOf c)) (in-left m names-p (i ∷ []) (of-p m x)))
+      (λ m x b. distinct-apart m names-p (i ∷ []) d (of-p m x) (inl (eqb→eq m i b)))
+      (isIn← i (namesOf (ruleOf c)) (in-right i names-p (i ∷ []) (inl refl)))
   chains (repeated′ i) d = chain-timed (repeated′ i) (trigger i) [] refl refl d
   chains (timed′ q qs t) d = chain-timed (timed′ q qs t) q qs refl refl d
 

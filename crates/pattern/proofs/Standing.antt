@@ -11,7 +11,8 @@ use Rattle.pattern.specs.Lists.{Distinct}
 use Rattle.pattern.specs.Meaning.{Event, Kind, once, repeated, timed, namesOf, Matches, lastTime, Rising, Status, broken, whole, open′, Broken, Judged}
 use Rattle.pattern.specs.Model.{inTime}
 use Rattle.pattern.proofs.Rounds.{Place, fresh, To, Fits, run, run-fits, run→, run←, isWhole, whole→, whole←}
-use Rattle.pattern.proofs.Fragment.{X, laws}
+use Rattle.pattern.proofs.Fragment.{X}
+use Rattle.pattern.proofs.Alive.{laws}
 use Rattle.pattern.proofs.Deadline.{isBroken, broken→, broken←}
 use Rattle.pattern.proofs.Orderings.{rising-append, rising-from}
 use Rattle.pattern.proofs.Rules.{CheckedRule, ruleOf, planOf, endingOf, matches→, matches←, on←, chained}
@@ -59,12 +60,15 @@ module _ (c : CheckedRule) where
     is-whole b = subst (λ (l : List Event). Matches (ruleOf c) l) (append-nil trace) (of [] (whole→ X laws (planOf c) (endingOf (c .kind)) here b))
 
     not-whole : T (not (isWhole X laws (planOf c) (endingOf (c .kind)) here)) → ¬ Matches (ruleOf c) trace
-    not-whole b m = T-not (isWhole X laws (planOf c) (endingOf (c .kind)) here) b (whole← X laws (planOf c) (endingOf (c .kind)) here (to [] tt (subst (λ (l : List Event). Matches (ruleOf c) l) (sym (append-nil trace)) m)))
+    not-whole b m =
+        let m′ : Matches (ruleOf c) (trace ++ []) = subst (λ (l : List Event). Matches (ruleOf c) l) (sym (append-nil trace)) m in
+        T-not (isWhole X laws (planOf c) (endingOf (c .kind)) here) b (whole← X laws (planOf c) (endingOf (c .kind)) here (to [] tt m′))
 
     pub judged : Judged (ruleOf c) trace latest (statusOf here latest)
     judged = look (isBroken X laws (planOf c) here latest) (isWhole X laws (planOf c) (endingOf (c .kind)) here) is-broken not-broken is-whole not-whole
       where
-        look : (x y : Bool) → (T x → Broken (ruleOf c) trace latest) → (T (not x) → ¬ Broken (ruleOf c) trace latest) → (T y → Matches (ruleOf c) trace) → (T (not y) → ¬ Matches (ruleOf c) trace) → Judged (ruleOf c) trace latest (cond x broken (cond y whole open′))
+        look : (x y : Bool) → (T x → Broken (ruleOf c) trace latest) → (T (not x) → ¬ Broken (ruleOf c) trace latest) → (T y → Matches (ruleOf c) trace) → (T (not y) → ¬ Matches (ruleOf c) trace)
+            → Judged (ruleOf c) trace latest (cond x broken (cond y whole open′))
         look true y a b e g = a tt
         look false true a b e g = e tt
         look false false a b e g = (b tt, g tt)

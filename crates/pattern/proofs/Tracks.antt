@@ -10,7 +10,8 @@ use Rattle.pattern.specs.Meaning.{Event, Fragment, fragmentNames, orderi
 use Rattle.pattern.specs.Model.{RuleState, fresh, step, statusAt, atRest}
 use Rattle.pattern.proofs.Basics.{each-in, distinct-left, distinct-right}
 use Rattle.pattern.proofs.Rounds as R
-use Rattle.pattern.proofs.Fragment.{X, laws, Checked}
+use Rattle.pattern.proofs.Fragment.{X, Checked}
+use Rattle.pattern.proofs.Alive.{laws}
 use Rattle.pattern.proofs.Orderings.{fragments}
 use Rattle.pattern.proofs.Rules.{CheckedRule, CheckedKind, once′, repeated′, timed′, ruleOf, kindOf, endingOf, planOf, chained}
 use Rattle.pattern.proofs.Standing.{placeAfter, judged}
@@ -79,7 +80,8 @@ tracks-fresh r w = let c = checked (r .kind) (r .p) w in record { checked = c; d
 pub fresh-at-rest : (r : Rule) → WellFormed r → T (atRest r (fresh r))
 fresh-at-rest r w = let c = checked (r .kind) (r .p) w in subst (λ (x : Rule). T (atRest x (fresh x))) (c .is) (fresh-rests (c .rule))
 
-run-snoc : (c : CheckedRule) (p : R.Place X) (a : List Event) (e : Event) → R.run X laws (planOf c) (endingOf (c .kind)) p (a ++ (e ∷ [])) ≡ R.go X laws (planOf c) (endingOf (c .kind)) (R.run X laws (planOf c) (endingOf (c .kind)) p a) e
+run-snoc : (c : CheckedRule) (p : R.Place X) (a : List Event) (e : Event)
+    → R.run X laws (planOf c) (endingOf (c .kind)) p (a ++ (e ∷ [])) ≡ R.go X laws (planOf c) (endingOf (c .kind)) (R.run X laws (planOf c) (endingOf (c .kind)) p a) e
 run-snoc c p [] e = refl
 run-snoc c p (x ∷ a) e = run-snoc c (R.go X laws (planOf c) (endingOf (c .kind)) p x) a e
 
@@ -89,11 +91,9 @@ tracks-step r trace st e i t =
     let z = t .checked .is in
     let d : Distinct (namesOf (ruleOf c)) = subst (λ (x : Rule). Distinct (namesOf x)) (sym z) (t .distinct) in
     let h = keeps c st (placeAfter c trace) e (subst (λ (x : Rule). T (isIn (e .name) (namesOf x))) (sym z) i) (R.run-fits X laws (planOf c) (endingOf (c .kind)) R.fresh trace (chained c d) tt) (t .stands) in
-    record {
-      checked = t .checked;
-      distinct = t .distinct;
-      stands = subst (λ (x : R.Place X). Stands c (step r st e) x) (sym (run-snoc c R.fresh trace e)) (subst (λ (x : Rule). Stands c (step x st e) (R.go X laws (planOf c) (endingOf (c .kind)) (placeAfter c trace) e)) z h);
-    }
+    let there : R.Place X = R.go X laws (planOf c) (endingOf (c .kind)) (placeAfter c trace) e in
+    let h′ : Stands c (step r st e) there = subst (λ (x : Rule). Stands c (step x st e) there) z h in
+    record { checked = t .checked; distinct = t .distinct; stands = subst (λ (x : R.Place X). Stands c (step r st e) x) (sym (run-snoc c R.fresh trace e)) h′ }
 
 pub tracks-status : (r : Rule) (trace : List Event) (st : RuleState) (latest : ℕ) → Rising 0 trace → lastTime 0 trace ≤ latest → Tracks r trace st → Judged r trace latest (statusAt r st latest)
 tracks-status r trace st latest rising past t =

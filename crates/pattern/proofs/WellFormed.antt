@@ -43,15 +43,24 @@ each→ ok P h (x ∷ xs) t = (h x (both-l (ok x) (allOf ok xs) t), each→ ok P
 
 range→ : (r : Range) → T (okRange r) → WellFormedRange r
 range→ r t =
-    let t′ = both-r (leb (r .name) 63) (leb 1 (r .u) && between (r .u) 65535 (r .v)) t in
-    let (o, f) = between→ (r .u) 65535 (r .v) (both-r (leb 1 (r .u)) (between (r .u) 65535 (r .v)) t′) in
-    record { named = leb→le (r .name) 63 (both-l (leb (r .name) 63) (leb 1 (r .u) && between (r .u) 65535 (r .v)) t); some = leb→le 1 (r .u) (both-l (leb 1 (r .u)) (between (r .u) 65535 (r .v)) t′); order = o; few = f }
+    let named : Bool = leb (r .name) 63 in
+    let some : Bool = leb 1 (r .u) in
+    let bounds : Bool = between (r .u) 65535 (r .v) in
+    let t′ = both-r named (some && bounds) t in
+    let (o, f) = between→ (r .u) 65535 (r .v) (both-r some bounds t′) in
+    record { named = leb→le (r .name) 63 (both-l named (some && bounds) t); some = leb→le 1 (r .u) (both-l some bounds t′); order = o; few = f }
 
 fragment→ : (f : Fragment) → T (okFragment f) → WellFormedFragment f
-fragment→ f t = record { count = between→ 1 8 (length (f .ranges)) (both-l (between 1 8 (length (f .ranges))) (allOf okRange (f .ranges)) t); ranges = each→ okRange WellFormedRange range→ (f .ranges) (both-r (between 1 8 (length (f .ranges))) (allOf okRange (f .ranges)) t) }
+fragment→ f t =
+    let count : Bool = between 1 8 (length (f .ranges)) in
+    let each : Bool = allOf okRange (f .ranges) in
+    record { count = between→ 1 8 (length (f .ranges)) (both-l count each t); ranges = each→ okRange WellFormedRange range→ (f .ranges) (both-r count each t) }
 
 ordering→ : (fs : List Fragment) → T (okOrdering fs) → WellFormedOrdering fs
-ordering→ fs t = record { count = between→ 1 8 (length fs) (both-l (between 1 8 (length fs)) (allOf okFragment fs) t); fragments = each→ okFragment WellFormedFragment fragment→ fs (both-r (between 1 8 (length fs)) (allOf okFragment fs) t) }
+ordering→ fs t =
+    let count : Bool = between 1 8 (length fs) in
+    let each : Bool = allOf okFragment fs in
+    record { count = between→ 1 8 (length fs) (both-l count each t); fragments = each→ okFragment WellFormedFragment fragment→ fs (both-r count each t) }
 
 kind→ : (k : Kind) → T (okKind k) → WellFormedKind k
 kind→ (once i) t = leb→le i 63 t
@@ -64,8 +73,11 @@ distinct→ (x ∷ xs) t = (λ i. T-not (isIn x xs) (both-l (not (isIn x xs)) (d
 
 ok→ : (r : Rule) → T (okRule r) → WellFormed r
 ok→ r t =
-    let t′ = both-r (okOrdering (r .p)) (okKind (r .kind) && distinct (namesOf r)) t in
-    record { p = ordering→ (r .p) (both-l (okOrdering (r .p)) (okKind (r .kind) && distinct (namesOf r)) t); kind = kind→ (r .kind) (both-l (okKind (r .kind)) (distinct (namesOf r)) t′); distinct = distinct→ (namesOf r) (both-r (okKind (r .kind)) (distinct (namesOf r)) t′) }
+    let p : Bool = okOrdering (r .p) in
+    let kind : Bool = okKind (r .kind) in
+    let once : Bool = distinct (namesOf r) in
+    let t′ = both-r p (kind && once) t in
+    record { p = ordering→ (r .p) (both-l p (kind && once) t); kind = kind→ (r .kind) (both-l kind once t′); distinct = distinct→ (namesOf r) (both-r kind once t′) }
 
 abbrev pub okRules : List Rule → Bool
 okRules rs = between 1 16 (length rs) && allOf okRule rs

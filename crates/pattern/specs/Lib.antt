@@ -1,8 +1,10 @@
 pub mod Lists
 pub mod Meaning
+pub mod Totals
 pub mod Judge
 pub mod Values
 pub mod Recogniser
 pub mod Model
 pub mod Agreement
+pub mod Before
 pub mod Traces

@@ -2,6 +2,7 @@
 -- Names and times are numbers. Assumes nothing.
 use mathlib.Core.Path.{_≡_}
 use mathlib.Core.Logic.{_⊎_, _≢_}
+use mathlib.Core.Bool.{Bool, true, false}
 use mathlib.Core.List.{List, [], _∷_, _++_, map}
 use Prim.Native.Nat.{ℕ, zero, suc, _+_, _≤_}
 use lib.ListN.{length, replicate}
@@ -37,30 +38,54 @@ Block r w = (k : ℕ) × Enough r k × AtMost r k × (w ≡ replicate k (r .name
 
 -- ---- fragment
 
+-- 0 all, 1 any; 2 all, shuffled; 3 any, shuffled
 pub data Join : Type 0 where
-  all any : Join
+  all any allShuffled anyShuffled : Join
+
+-- the two questions that a join answers: may a range be left out; need the blocks not stand in a row
+abbrev pub mayBeLeftOut : Join → Bool
+mayBeLeftOut all = false
+mayBeLeftOut any = true
+mayBeLeftOut allShuffled = false
+mayBeLeftOut anyShuffled = true
+
+abbrev pub shuffled : Join → Bool
+shuffled all = false
+shuffled any = false
+shuffled allShuffled = true
+shuffled anyShuffled = true
 
 pub record Fragment : Type 0 where
   pub join : Join
   pub ranges : List Range
 
--- one block of each range of the list, concatenated in the list's order
-abbrev pub Blocks : List Range → List ℕ → Type 0
-Blocks [] w = w ≡ []
-Blocks (r ∷ rs) w = (a : List ℕ) × (b : List ℕ) × (w ≡ a ++ b) × Block r a × Blocks rs b
+-- w is a shuffle of a and b: their events, interleaved in any way (document 000, Definition 8)
+abbrev pub Shuffle : List ℕ → List ℕ → List ℕ → Type 0
+Shuffle a b [] = (a ≡ []) × (b ≡ [])
+Shuffle a b (m ∷ w) = ((a′ : List ℕ) × (a ≡ m ∷ a′) × Shuffle a′ b w) ⊎ ((b′ : List ℕ) × (b ≡ m ∷ b′) × Shuffle a b′ w)
 
--- which choices of its ranges a fragment allows: joined all, every range; joined any, some non-empty subset
-abbrev pub Chosen : Join → List Range → List Range → Type 0
-Chosen all ranges choice = (r : Range) → In r ranges → In r choice
-Chosen any ranges choice = choice ≢ []
+-- a and b make w: concatenated, or shuffled
+abbrev pub Together : Bool → List ℕ → List ℕ → List ℕ → Type 0
+Together false a b w = w ≡ a ++ b
+Together true a b w = Shuffle a b w
 
--- "one block of each range, concatenated in any order", "the same over some non-empty subset of the ranges"
+-- one block of each range of the list, concatenated in the list's order, or shuffled
+abbrev pub Blocks : Bool → List Range → List ℕ → Type 0
+Blocks s [] w = w ≡ []
+Blocks s (r ∷ rs) w = (a : List ℕ) × (b : List ℕ) × Together s a b w × Block r a × Blocks s rs b
+
+-- which choices of its ranges a fragment allows: every range, or some non-empty subset
+abbrev pub Chosen : Bool → List Range → List Range → Type 0
+Chosen false ranges choice = (r : Range) → In r ranges → In r choice
+Chosen true ranges choice = choice ≢ []
+
+-- "one block of each range, concatenated in any order", "the same over some non-empty subset of the ranges"; shuffled, "blocks need not be in a row"
 pub record MatchesFragment (f : Fragment) (w : List ℕ) : Type 0 where
   pub choice : List Range
   pub once : Distinct choice
   pub within : (r : Range) → In r choice → In r (f .ranges)
-  pub chosen : Chosen (f .join) (f .ranges) choice
-  pub blocks : Blocks choice w
+  pub chosen : Chosen (mayBeLeftOut (f .join)) (f .ranges) choice
+  pub blocks : Blocks (shuffled (f .join)) choice w
 
 -- ---- ordering
 

@@ -1,4 +1,4 @@
--- The monitor as a pure function (document 01, "The recogniser of a range" and "Observing"): for each rule its fragment number, eight recogniser states, one count and
+-- The monitor as a pure function (document 01, "The recogniser of a range" and "Observing"): for each rule its fragment number, eight recogniser states, eight counts and
 -- the end time of P; for the book the latest time, the number taken and the verdict. The table of moves knows no time; the deadline is added in `late` and `overdue`.
 -- Assumes nothing.
 use mathlib.Core.Bool.{Bool, true, false, cond, not, _&&_, _||_}
@@ -10,7 +10,7 @@ use lib.ListN.{length, getD, replicate}
 use Rattle.pattern.specs.Lists.{isIn, allOf, anyOf}
 use Rattle.pattern.specs.Meaning.{Event, Range, Join, all, Fragment, fragmentNames, Kind, once, repeated, timed, Rule, namesOf, Status, broken, whole, open′}
 use Rattle.pattern.specs.Judge.{Observation, event, clock, timeOf, Verdict, allWhole, someOpen, brokenAt, Answer, verdict, refused, verdictOf, refusal}
-use Rattle.pattern.specs.Recogniser.{State, idle, Class, next, other, Slot, slots, moves, counts, notBegun, within, isIdle, isUnbegun, erred, complete, canGrow}
+use Rattle.pattern.specs.Recogniser.{State, idle, Class, next, other, Slot, slots, moves, tallies, notBegun, within, isIdle, isUnbegun, erred, complete, canGrow}
 
 -- ---- the round of a rule
 
@@ -42,11 +42,11 @@ isOnce (timed q t) = false
 
 -- ---- one rule
 
--- "for each rule, its fragment number, eight recogniser states, one count and the end time of P"
+-- "for each rule, its fragment number, eight recogniser states, .. and the end time of P"; "The state keeps eight counts for a fragment where it kept one"
 pub record RuleState : Type 0 where
   pub fragment : ℕ
   pub states : List State
-  pub count : ℕ
+  pub counts : List ℕ
   pub end : ℕ
 
 module _ (r : Rule) where
@@ -68,14 +68,14 @@ module _ (r : Rule) where
   afterP n = leb (length (r .p)) n
 
   abbrev pub slotsOf : RuleState → List Slot
-  slotsOf st = slots (fragmentAt (st .fragment) .ranges) (st .states)
+  slotsOf st = slots (fragmentAt (st .fragment) .ranges) (st .states) (st .counts)
 
   abbrev pub joinOf : RuleState → Join
   joinOf st = fragmentAt (st .fragment) .join
 
   -- nothing has come
   abbrev pub fresh : RuleState
-  fresh = record { fragment = 0; states = notBegun (fragmentAt 0 .ranges) 8; count = 0; end = 0 }
+  fresh = record { fragment = 0; states = notBegun (fragmentAt 0 .ranges) 8; counts = replicate 8 0; end = 0 }
 
   -- "Kind 0 is released by its first valid trigger": only a released rule of kind 0 stands at its trigger's fragment
   abbrev pub released : RuleState → Bool
@@ -103,24 +103,27 @@ module _ (r : Rule) where
       let start : List State = notBegun (f .ranges) 8 in
       record {
         fragment = n;
-        states = cond (isOnce (r .kind) && afterP n) (replicate 8 idle) (moves (f .join) (within (e .name)) 0 (f .ranges) start);
-        count = 1;
+        states = cond (isOnce (r .kind) && afterP n) (replicate 8 idle) (moves (f .join) (within (e .name)) (f .ranges) start (replicate 8 0));
+        counts = tallies (within (e .name)) (f .ranges) start (replicate 8 0);
         end = endAfter n end (e .time);
       }
 
-  -- the states after the event, by the table
+  -- the states after the event, by the table, and the counts
   abbrev pub moved : RuleState → Event → List State
-  moved st e = moves (joinOf st) (classOf st e) (st .count) (fragmentAt (st .fragment) .ranges) (st .states)
+  moved st e = moves (joinOf st) (classOf st e) (fragmentAt (st .fragment) .ranges) (st .states) (st .counts)
+
+  abbrev pub tallied : RuleState → Event → List ℕ
+  tallied st e = tallies (classOf st e) (fragmentAt (st .fragment) .ranges) (st .states) (st .counts)
 
   -- "seen as next by every range of the fragment, without error"
   abbrev pub passes : RuleState → Event → Bool
-  passes st e = not (has (st .fragment) (e .name)) && allOf (λ (x : Slot). isIdle (x .state)) (slots (fragmentAt (st .fragment) .ranges) (moved st e))
+  passes st e = not (has (st .fragment) (e .name)) && allOf (λ (x : Slot). isIdle (x .state)) (slots (fragmentAt (st .fragment) .ranges) (moved st e) (tallied st e))
 
   abbrev pub stay : RuleState → Event → RuleState
   stay st e = record {
     fragment = st .fragment;
     states = moved st e;
-    count = cond (late st e) (st .count) (counts (e .name) (st .count) (slotsOf st));
+    counts = tallied st e;
     end = endAfter (st .fragment) (st .end) (e .time);
   }
 
@@ -137,10 +140,10 @@ module _ (r : Rule) where
   -- the rule's next event would have to be of Q and in time: Q has begun and is not complete, or P is complete and cannot grow
   abbrev pub pressed : RuleState → Bool
   pressed st =
-      let done : Bool = complete (joinOf st) (st .count) (slotsOf st) in
+      let done : Bool = complete (joinOf st) (slotsOf st) in
       cond (afterP (st .fragment))
       (not (done && isLast (st .fragment)))
-      (afterP (following (st .fragment)) && done && not (canGrow (joinOf st) (st .count) (slotsOf st)))
+      (afterP (following (st .fragment)) && done && not (canGrow (joinOf st) (slotsOf st)))
 
   -- broken by the clock
   abbrev pub overdue : RuleState → ℕ → Bool
@@ -150,7 +153,7 @@ module _ (r : Rule) where
   statusAt st now =
       cond (atRest st) whole
       (cond (erred (slotsOf st) || overdue st now) broken
-      (cond (complete (joinOf st) (st .count) (slotsOf st) && isLast (st .fragment)) whole open′))
+      (cond (complete (joinOf st) (slotsOf st) && isLast (st .fragment)) whole open′))
 
   -- a rule's state after an observation: one that is not its own changes nothing
   abbrev pub after : RuleState → Observation → RuleState

@@ -1,11 +1,11 @@
--- The recogniser of a range (document 01, "The recogniser of a range"), and the recognisers of a fragment's ranges side by side: eight states and one count.
+-- The recogniser of a range (document 01, "The recogniser of a range"), and the recognisers of a fragment's ranges side by side: eight states and eight counts.
 -- Assumes nothing.
 use mathlib.Core.Bool.{Bool, true, false, cond}
 use mathlib.Core.List.{List, [], _∷_}
 use Prim.Native.Nat.{ℕ, zero, suc}
 use lib.Dec.{leb, ltb, eqb}
 use Rattle.pattern.specs.Lists.{allOf, anyOf}
-use Rattle.pattern.specs.Meaning.{Range, Join, all, any}
+use Rattle.pattern.specs.Meaning.{Range, Join, mayBeLeftOut, shuffled}
 
 -- ---- one range
 
@@ -33,10 +33,6 @@ hasEnough r count = leb (r .u) count
 abbrev pub hasRoom : Range → ℕ → Bool
 hasRoom r count = ltb count (r .v)
 
-abbrev pub mayBeLeftOut : Join → Bool
-mayBeLeftOut all = false
-mayBeLeftOut any = true
-
 -- the table of moves
 abbrev pub move : Join → Range → ℕ → State → Class → State
 move j r count idle c = idle
@@ -49,7 +45,7 @@ move j r count waiting sibling = waiting
 move j r count waiting next = cond (mayBeLeftOut j) idle error
 move j r count waiting other = error
 move j r count counting own = cond (hasRoom r count) counting error
-move j r count counting sibling = cond (hasEnough r count) done error
+move j r count counting sibling = cond (shuffled j) counting (cond (hasEnough r count) done error)
 move j r count counting next = cond (hasEnough r count) idle error
 move j r count counting other = error
 move j r count done own = error
@@ -101,27 +97,39 @@ nextCount r count error = 1
 
 -- ---- the ranges of a fragment
 
--- a range beside its state
+-- a range beside its state and its count
 pub record Slot : Type 0 where
   pub range : Range
   pub state : State
+  pub count : ℕ
 
--- states past the last range are idle, and not looked at
-abbrev pub slots : List Range → List State → List Slot
-slots [] ss = []
-slots (r ∷ rs) [] = []
-slots (r ∷ rs) (s ∷ ss) = record { range = r; state = s } ∷ slots rs ss
+-- states and counts past the last range's are not looked at
+abbrev pub slots : List Range → List State → List ℕ → List Slot
+slots [] ss cs = []
+slots (r ∷ rs) [] cs = []
+slots (r ∷ rs) (s ∷ ss) [] = []
+slots (r ∷ rs) (s ∷ ss) (c ∷ cs) = record { range = r; state = s; count = c } ∷ slots rs ss cs
 
 -- the states after an event, of which each range says how it sees it
-abbrev pub moves : Join → (Range → Class) → ℕ → List Range → List State → List State
-moves j class count [] ss = ss
-moves j class count (r ∷ rs) [] = []
-moves j class count (r ∷ rs) (s ∷ ss) = move j r count s (class r) ∷ moves j class count rs ss
+abbrev pub moves : Join → (Range → Class) → List Range → List State → List ℕ → List State
+moves j class [] ss cs = ss
+moves j class (r ∷ rs) [] cs = []
+moves j class (r ∷ rs) (s ∷ ss) [] = s ∷ ss
+moves j class (r ∷ rs) (s ∷ ss) (c ∷ cs) = move j r c s (class r) ∷ moves j class rs ss cs
 
--- the one count after an event on a name: that of the range whose own it is
-abbrev pub counts : ℕ → ℕ → List Slot → ℕ
-counts m count [] = count
-counts m count (x ∷ xs) = cond (eqb m (x .range .name)) (nextCount (x .range) count (x .state)) (counts m count xs)
+-- the count of a range after an event of a class: only its own counts
+abbrev pub tally : Class → Range → ℕ → State → ℕ
+tally own r count s = nextCount r count s
+tally sibling r count s = count
+tally next r count s = count
+tally other r count s = count
+
+-- the counts after an event
+abbrev pub tallies : (Range → Class) → List Range → List State → List ℕ → List ℕ
+tallies class [] ss cs = cs
+tallies class (r ∷ rs) [] cs = cs
+tallies class (r ∷ rs) (s ∷ ss) [] = []
+tallies class (r ∷ rs) (s ∷ ss) (c ∷ cs) = tally (class r) r c s ∷ tallies class rs ss cs
 
 -- n states, where no event of the fragment has come
 abbrev pub notBegun : List Range → ℕ → List State
@@ -140,9 +148,9 @@ abbrev pub erred : List Slot → Bool
 erred = anyOf (λ (x : Slot). isError (x .state))
 
 -- the fragment may be followed: *next* is an error to no range
-abbrev pub complete : Join → ℕ → List Slot → Bool
-complete j count = allOf (λ (x : Slot). isIdle (move j (x .range) count (x .state) next))
+abbrev pub complete : Join → List Slot → Bool
+complete j = allOf (λ (x : Slot). isIdle (move j (x .range) (x .count) (x .state) next))
 
 -- the fragment can take one more event: one of its ranges can
-abbrev pub canGrow : Join → ℕ → List Slot → Bool
-canGrow j count = anyOf (λ (x : Slot). isCounting (move j (x .range) count (x .state) own))
+abbrev pub canGrow : Join → List Slot → Bool
+canGrow j = anyOf (λ (x : Slot). isCounting (move j (x .range) (x .count) (x .state) own))

@@ -1,8 +1,9 @@
--- Document 01's "Traces to settle arguments" as one table, the misreadings at its end turned into traces among them. That the judge gives each row's verdict is proved in `proofs/Marked`.
+-- Document 01's "Traces to settle arguments" as one table, the misreadings at its end turned into traces among them, and the traces that settle document 02's changes. That the judge gives each row's
+-- verdict is proved in `proofs/Marked`.
 -- Assumes nothing.
 use mathlib.Core.List.{List, [], _∷_}
 use Prim.Native.Nat.{ℕ}
-use Rattle.pattern.specs.Meaning.{Range, Join, all, any, Fragment, Rule, once, repeated, timed}
+use Rattle.pattern.specs.Meaning.{Range, Join, all, any, allShuffled, anyShuffled, Fragment, Rule, once, repeated, timed}
 use Rattle.pattern.specs.Judge.{Observation, event, clock, Verdict, allWhole, someOpen, brokenAt, Answer, verdict, refused}
 
 -- "n[u,v]"
@@ -113,4 +114,51 @@ masks =
     ∷ row (T ∷ R ∷ N ∷ []) (event 2 0 ∷ []) 1 (brokenAt 1 6)
     ∷ row (N ∷ R ∷ []) (event 1 0 ∷ event 0 0 ∷ event 2 0 ∷ event 2 0 ∷ []) 4 (brokenAt 4 2)
     ∷ row (T ∷ N ∷ []) (event 0 0 ∷ event 2 1 ∷ []) 2 (someOpen 1)
+    ∷ []
+
+-- ---- document 02, change 1: shuffled fragments
+
+-- S: kind 2, P = {0[1,2], 1[1,1]} all, shuffled, Q = 9[1,2], t = 10
+abbrev pub S : Rule
+S = record { kind = timed (fragment all (range 9 1 2 ∷ []) ∷ []) 10; p = fragment allShuffled (range 0 1 2 ∷ range 1 1 1 ∷ []) ∷ [] }
+
+-- O: kind 1, {0[2,3], 1[1,2]} any, shuffled, before 2
+abbrev pub O : Rule
+O = record { kind = repeated 2; p = fragment anyShuffled (range 0 2 3 ∷ range 1 1 2 ∷ []) ∷ [] }
+
+-- W: kind 1, {0[1,2], 1[2,2]} all, shuffled, then {3[1,1], 4[2,2]} any, shuffled, before 2
+abbrev pub W : Rule
+W = record { kind = repeated 2; p = fragment allShuffled (range 0 1 2 ∷ range 1 2 2 ∷ []) ∷ fragment anyShuffled (range 3 1 1 ∷ range 4 2 2 ∷ []) ∷ [] }
+
+abbrev pub onlyS : List Rule
+onlyS = S ∷ []
+
+abbrev pub onlyO : List Rule
+onlyO = O ∷ []
+
+abbrev pub onlyW : List Rule
+onlyW = W ∷ []
+
+abbrev pub shuffledRows : List Row
+shuffledRows =
+    -- "Blocks need not be in a row"; "what lies between u and v": one more than v breaks at once
+    row onlyS (event 0 0 ∷ event 1 0 ∷ event 0 0 ∷ event 9 10 ∷ []) 4 allWhole
+    ∷ row onlyS (event 0 0 ∷ event 1 0 ∷ event 1 0 ∷ []) 3 (brokenNow 3)
+    -- "Join 2 needs every name"
+    ∷ row onlyS (event 0 0 ∷ event 0 0 ∷ event 9 0 ∷ []) 3 (brokenNow 3)
+    -- P can grow while any range is below v, whichever came last; else the deadline runs
+    ∷ row onlyS (event 0 0 ∷ event 1 0 ∷ clock 99 ∷ []) 3 isOpen
+    ∷ row onlyS (event 0 0 ∷ event 1 0 ∷ event 0 0 ∷ clock 99 ∷ []) 4 (brokenNow 4)
+    -- "each name used must reach u": asked when the fragment is left, and not before
+    ∷ row onlyO (event 0 0 ∷ event 1 0 ∷ event 1 0 ∷ []) 3 isOpen
+    ∷ row onlyO (event 0 0 ∷ event 1 0 ∷ event 2 0 ∷ []) 3 (brokenNow 3)
+    ∷ row onlyO (event 0 0 ∷ event 1 0 ∷ event 0 0 ∷ event 2 0 ∷ []) 4 allWhole
+    -- "join 3 needs at least one"
+    ∷ row onlyO (event 1 0 ∷ event 2 0 ∷ []) 2 allWhole
+    ∷ row onlyO (event 2 0 ∷ []) 1 (brokenNow 1)
+    ∷ row onlyO (event 1 0 ∷ event 0 0 ∷ event 1 0 ∷ event 1 0 ∷ []) 4 (brokenNow 4)
+    -- a round's counts are its own, and so are a fragment's
+    ∷ row onlyO (event 1 0 ∷ event 1 0 ∷ event 2 0 ∷ event 1 0 ∷ event 1 0 ∷ event 2 0 ∷ []) 6 allWhole
+    ∷ row onlyW (event 0 0 ∷ event 1 0 ∷ event 0 0 ∷ event 1 0 ∷ event 4 0 ∷ event 3 0 ∷ event 4 0 ∷ event 2 0 ∷ []) 8 allWhole
+    ∷ row onlyW (event 0 0 ∷ event 1 0 ∷ event 0 0 ∷ event 1 0 ∷ event 4 0 ∷ event 3 0 ∷ event 2 0 ∷ []) 7 (brokenNow 7)
     ∷ []

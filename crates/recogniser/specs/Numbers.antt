@@ -1,7 +1,9 @@
 -- Document 01's numbers for the states of a range, the classes of an event and the joins of a fragment, both ways, and the move in these numbers.
 -- Code holds numbers, and every number stands for something, so that nothing is asked of them. Assumes nothing.
-use Prim.Native.Nat.{ℕ, zero, suc}
-use Rattle.pattern.specs.Meaning.{Range, Join, all, any}
+use mathlib.Core.Bool.{Bool, true, false}
+use Prim.Native.Nat.{ℕ, zero, suc, _/_, _%_}
+use lib.Dec.{eqb}
+use Rattle.pattern.specs.Meaning.{Range, Join, all, any, allShuffled, anyShuffled}
 use Rattle.pattern.specs.Recogniser.{State, idle, unbegun, waiting, counting, done, error, stateNumber, Class, own, sibling, next, other, move}
 
 -- a state's number is `stateNumber` of pattern's `Recogniser`; every number above 4 is error
@@ -26,14 +28,29 @@ classOf (suc zero) = sibling
 classOf (suc (suc zero)) = next
 classOf (suc (suc (suc n))) = other
 
--- "join (0 all, 1 any)"; every number above 0 is any
+-- "join (0 all, 1 any)", "2 all shuffled and 3 any shuffled"
 abbrev pub joinNumber : Join → ℕ
 joinNumber all = 0
 joinNumber any = 1
+joinNumber allShuffled = 2
+joinNumber anyShuffled = 3
+
+-- the join with these answers: may a range be left out; are the blocks shuffled
+abbrev pub joinWith : Bool → Bool → Join
+joinWith false false = all
+joinWith true false = any
+joinWith false true = allShuffled
+joinWith true true = anyShuffled
+
+-- the two answers are binary digits 0 and 1 of a join's number; no other digit is looked at
+abbrev pub leftOutBit : ℕ → Bool
+leftOutBit n = eqb (n % 2) 1
+
+abbrev pub shuffledBit : ℕ → Bool
+shuffledBit n = eqb (n / 2 % 2) 1
 
 abbrev pub joinOf : ℕ → Join
-joinOf zero = all
-joinOf (suc n) = any
+joinOf n = joinWith (leftOutBit n) (shuffledBit n)
 
 -- a range with these bounds; its name has no part in a move
 abbrev pub bounds : ℕ → ℕ → Range

@@ -1,7 +1,10 @@
 // The recogniser of a range (document 01): one move, in document 01's numbers. Every number stands for a state, a class or a join, so nothing is asked of them.
 // `next_state` is what a caller asks: the entry of the table of moves for a state and a class, and the state that this entry says.
 ghost use mathlib.Core.Path.{_≡_};
+ghost use mathlib.Core.Bool.{cond};
 ghost use Prim.Native.Nat.{_≤_, min};
+ghost use lib.Dec.{leb, ltb};
+ghost use Rattle.pattern.specs.Meaning.{mayBeLeftOut, shuffled};
 ghost use Rattle.pattern.specs.Recogniser.{stateNumber};
 ghost use Rattle.recogniser.specs.Numbers.{joinOf, bounds, nextState};
 ghost use Rattle.recogniser.specs.Entries.{entryState, IsEntry};
@@ -22,20 +25,17 @@ const ERROR: u8 = 5;
 // The last class: own, sibling, next and other are 0 to 3.
 const OTHER: u8 = 3;
 
-// "join (0 all, 1 any)".
-const ALL: u8 = 0;
-
 // Entries of the table that are no state but a move with a condition. "3 if count < v, else 5":
 const COUNTING_IF_ROOM: u8 = 6;
 
-// "4 if count ≥ u, else 5":
-const DONE_IF_ENOUGH: u8 = 7;
+// 3 if shuffled, else 4 if count ≥ u, else 5:
+const CLOSED_BY_SIBLING: u8 = 7;
 
 // "0 if count ≥ u, else 5":
 const IDLE_IF_ENOUGH: u8 = 8;
 
-// "0 if any, 5 if all":
-const IDLE_IF_ANY: u8 = 9;
+// 0 if the range may be left out, else 5:
+const IDLE_IF_LEFT_OUT: u8 = 9;
 
 // "The moves are one constant table of states against classes": six rows of four, from | own | sibling | next | other. "0 and 5 stay."
 const MOVES: [u8; 24] = [
@@ -47,12 +47,12 @@ const MOVES: [u8; 24] = [
     WAITING,
     ERROR,
     ERROR,
-    COUNTING, // from 2 waiting | 3 | 2 | 0 if any, 5 if all | 5
+    COUNTING, // from 2 waiting | 3 | 2 | 0 if it may be left out, else 5 | 5
     WAITING,
-    IDLE_IF_ANY,
+    IDLE_IF_LEFT_OUT,
     ERROR,
-    COUNTING_IF_ROOM, // from 3 counting | 3 if count < v, else 5 | 4 if count ≥ u, else 5 | 0 if count ≥ u, else 5 | 5
-    DONE_IF_ENOUGH,
+    COUNTING_IF_ROOM, // from 3 counting | 3 if count < v, else 5 | 3 if shuffled, else 4 if count ≥ u, else 5 | 0 if count ≥ u, else 5 | 5
+    CLOSED_BY_SIBLING,
     IDLE_IF_ENOUGH,
     ERROR,
     ERROR, // from 4 done | 5 | 4 | 0 | 5
@@ -95,20 +95,58 @@ fn entry(state: u8, class: u8) -> u8
     }
 }
 
-// The state that an entry of the table says, for a range with bounds u and v in a fragment of this join, where count events of its block have come. The last arm is `IDLE_IF_ANY`.
+// The four conditions of the moves. A range that has not begun may be left out of a fragment of this join: "0 all, 1 any", "2 all shuffled and 3 any shuffled".
+fn may_be_left_out(join: u8) -> bool
+    ensures { λ r. ⌜ r ≡ mayBeLeftOut (joinOf join) ⌝ }
+{
+    join % 2 == 1
+}
+
+// Its blocks need not be in a row.
+fn is_shuffled(join: u8) -> bool
+    ensures { λ r. ⌜ r ≡ shuffled (joinOf join) ⌝ }
+{
+    join / 2 % 2 == 1
+}
+
+// "count ≥ u".
+fn has_enough(count: u16, u: u16) -> bool
+    ensures { λ r. ⌜ r ≡ leb u count ⌝ }
+{
+    u <= count
+}
+
+// "count < v".
+fn has_room(count: u16, v: u16) -> bool
+    ensures { λ r. ⌜ r ≡ ltb count v ⌝ }
+{
+    count < v
+}
+
+// One state where a condition holds, another where it does not.
+fn select(holds: bool, yes: u8, no: u8) -> u8
+    ensures { λ r. ⌜ r ≡ cond holds yes no ⌝ }
+{
+    if holds { yes } else { no }
+}
+
+// The state that an entry of the table says, for a range with bounds u and v in a fragment of this join, where count of its events have come. The last arm is `IDLE_IF_LEFT_OUT`.
 fn decided(entry: u8, join: u8, count: u16, u: u16, v: u16) -> u8
     ensures { λ r. ⌜ r ≡ stateNumber (entryState (joinOf join) (bounds u v) count entry) ⌝ }
 {
     match entry {
         IDLE..=ERROR => entry,
-        COUNTING_IF_ROOM => { if count < v { COUNTING } else { ERROR } }
-        DONE_IF_ENOUGH => { if u <= count { DONE } else { ERROR } }
-        IDLE_IF_ENOUGH => { if u <= count { IDLE } else { ERROR } }
-        _ => { if join == ALL { ERROR } else { IDLE } }
+        COUNTING_IF_ROOM => select(has_room(count, v), COUNTING, ERROR),
+        CLOSED_BY_SIBLING => {
+            let closed = select(has_enough(count, u), DONE, ERROR);
+            select(is_shuffled(join), COUNTING, closed)
+        }
+        IDLE_IF_ENOUGH => select(has_enough(count, u), IDLE, ERROR),
+        _ => select(may_be_left_out(join), IDLE, ERROR),
     }
 }
 
-// The state after an event of a class, for a range with bounds u and v in a fragment of this join, where count events of its block have come.
+// The state after an event of a class, for a range with bounds u and v in a fragment of this join, where count of its events have come.
 pub fn next_state(state: u8, class: u8, join: u8, count: u16, u: u16, v: u16) -> u8
     ensures { λ r. ⌜ r ≡ nextState state class join count u v ⌝ }
 {

@@ -17,14 +17,14 @@ use Rattle.names.proofs.Digits.{member-or, member-power}
 use Rattle.names.proofs.Sets.{member-empty}
 use Rattle.masks.specs.Masks.{Union, Without, With, Less}
 use Rattle.masks.proofs.Members.{mask-is}
-use Rattle.step.specs.declared.RuleState.{RuleState}
+use Rattle.rule_state.specs.declared.RuleState.{RuleState}
 use Rattle.step.specs.declared.Stepped.{Stepped}
-use Rattle.fragment.specs.Upto.{mapN}
 use Rattle.step.specs.declared.Standing.{Standing}
 use Rattle.step.specs.Standings.{isBroken, isOpen, isDue}
 use Rattle.step.specs.Steps.{actOf}
+use Rattle.words.specs.Upto.{mapN}
 use Rattle.words.specs.Words.{noState, Held, heldBy, Holds, withRules}
-use Rattle.words.proofs.Laws.{middle, upper, sixteen}
+use Rattle.words.proofs.Laws.{sixteen}
 use Rattle.words.proofs.Places.{mapN-alike, mapN-same, set-mapN, getD-mapN}
 use Rattle.rules.specs.declared.Masks.{Masks}
 use Rattle.rules.specs.Pass.{Marks, Notes, Waits, Tells, Steps, StepsAll, Passes}
@@ -56,6 +56,13 @@ small false true true = omega arith
 small false true false = omega arith
 small false false true = omega arith
 small false false false = omega arith
+
+-- the two upper ones of three numbers in a word
+middle : (below d above w : ℕ) → below < 65536 → d < 65536 → w ≡ below + 65536 * (d + 65536 * above) → w / 65536 % 65536 ≡ d
+middle below d above w l h e = omega arith
+
+upper : (below d w : ℕ) → below < 4294967296 → d < 65536 → w ≡ below + 4294967296 * d → w / 4294967296 % 65536 ≡ d
+upper below d w l h e = omega arith
 
 -- a mask that got rule r if `on`
 with-rule : (on : Bool) (mask r made : ℕ) → r < 16 → made ≡ bitOr mask (cond on (2 ^ r) 0) → With mask r on made
@@ -188,20 +195,20 @@ module _ (table : List ℕ) (noted who name time : ℕ) (m : Held) where
   abbrev stepped : ℕ → Held
   stepped todo = withRules m (mapN (seenState todo) 0 16 (m .rules))
 
-  pub record Stepping (words : List ℕ) (todo all : ℕ) : Type 0 where
+  pub record Stepping (bytes : List ℕ) (todo all : ℕ) : Type 0 where
     pub many : length (m .rules) ≡ 16
-    pub holds : Holds words (stepped todo)
+    pub holds : Holds bytes (stepped todo)
     pub notes : Noting noted who stands todo all
 
-  pub stepping-start : {words : List ℕ} → Holds words m → Stepping words who noted
-  stepping-start {words} h = record {
-    many = subst (λ (x : Held). length (x .rules) ≡ 16) (h .held) (sixteen words);
+  pub stepping-start : {bytes : List ℕ} → Holds bytes m → Stepping bytes who noted
+  stepping-start {bytes} h = record {
+    many = subst (λ (x : Held). length (x .rules) ≡ 16) (h .held) (sixteen bytes);
     holds = rw (mapN-same (seenState who) 0 16 (m .rules) (λ k st. ap (λ (t : Bool). cond t (actOf table k st name time .state) st) (and-not-self (member who k)))) h;
     notes = noting-start noted who stands;
   }
 
   -- one turn: rule r leaves `todo`. A rule that is left stands as it did
-  module _ {words : List ℕ} {todo todo′ all r : ℕ} (p : Stepping words todo all) (inside : member todo r ≡ true) (rule : r < 16) (left : Less todo r todo′) where
+  module _ {bytes : List ℕ} {todo todo′ all r : ℕ} (p : Stepping bytes todo all) (inside : member todo r ≡ true) (rule : r < 16) (left : Less todo r todo′) where
     was : getD (stepped todo .rules) r noState ≡ getD (m .rules) r noState
     was =
         let unseen : seen noted who stands todo (0 + r) ≡ false = rw (ap (member todo) (zero-add r) ∙ inside) (and-false (member who (0 + r))) in
@@ -210,7 +217,7 @@ module _ (table : List ℕ) (noted who name time : ℕ) (m : Held) where
     this : actOf table r (getD (m .rules) r noState) name time .state ≡ seenState todo′ r (getD (m .rules) r noState)
     this = rw (seen-this noted who stands (p .notes .within) inside left)
 
-    pub stepping-more : {after : List ℕ} {made : ℕ} {s : Standing} → ((k : Held) → Holds words k → Steps (actOf table r (getD (k .rules) r noState) name time) r k s after) → Marks all r s made
+    pub stepping-more : {after : List ℕ} {made : ℕ} {s : Standing} → ((k : Held) → Holds bytes k → Steps (actOf table r (getD (k .rules) r noState) name time) r k s after) → Marks all r s made
         → Stepping after todo′ made
     stepping-more st w = let t = rw was at (st _ (p .holds)) in record {
       many = p .many;
@@ -222,7 +229,7 @@ module _ (table : List ℕ) (noted who name time : ℕ) (m : Held) where
       notes = noting-more noted who stands (p .notes) inside rule left (t .stands) w;
     }
 
-  pub stepping-end : {words : List ℕ} {todo all : ℕ} → Stepping words todo all → todo ≡ 0 → StepsAll table noted who name time m all words
+  pub stepping-end : {bytes : List ℕ} {todo all : ℕ} → Stepping bytes todo all → todo ≡ 0 → StepsAll table noted who name time m all bytes
   stepping-end {todo = todo} p e = record {
     notes = noting-end noted who stands (p .notes) e;
     holds = rw (mapN-alike (seenState todo) (stepsAt table who name time) 0 16 (m .rules) (λ k st h. ap (λ (t : Bool). cond t (actOf table k st name time .state) st) (all-seen noted who stands e k)))
@@ -278,7 +285,7 @@ looks {table} {concerned} {opens} {dues} {name} {time} {m = m} {who} {held = hel
     }
 
 -- no rule has the name: none steps
-pub none-step : (table : List ℕ) (held name time : ℕ) {words : List ℕ} {m : Held} → Holds words m → StepsAll table held 0 name time m held words
+pub none-step : (table : List ℕ) (held name time : ℕ) {bytes : List ℕ} {m : Held} → Holds bytes m → StepsAll table held 0 name time m held bytes
 none-step table held name time {m = m} h = stepping-end table held 0 name time m (stepping-start table held 0 name time m h) refl
 
 pub all-without-none : (a : ℕ) → Without a 0 a

@@ -6,12 +6,12 @@ use mathlib.Core.List.{List}
 use Prim.Native.Nat.{ℕ, _+_, _*_, _/_, _%_, _^_, _<_}
 use lib.ListN.{getD, set}
 use Rattle.names.specs.Names.{member}
-use Rattle.step.specs.declared.RuleState.{RuleState}
+use Rattle.rule_state.specs.declared.RuleState.{RuleState}
 use Rattle.step.specs.declared.Stepped.{Stepped}
 use Rattle.words.specs.Words.{noState, Held, Holds, withRules}
 use Rattle.rules.specs.declared.Masks.{Masks}
 use Rattle.masks.specs.Masks.{maskN, Union, With}
-use Rattle.fragment.specs.Upto.{mapN}
+use Rattle.words.specs.Upto.{mapN}
 use Rattle.tables.specs.Cells.{limitOf}
 use Rattle.deadline.specs.Deadlines.{overdueOf}
 use Rattle.step.specs.declared.Standing.{Standing}
@@ -102,9 +102,9 @@ pub record Tells (all left : ℕ) (p : Masks) : Type 0 where
   pub opened< : p .opens < 2 ^ 16
   pub due : p .dues ≡ dueIn all
 
--- ---- in the words of a monitor m
+-- ---- in the memory of a monitor m
 
--- rule r becomes s: how it stands, and the words that it leaves
+-- rule r becomes s: how it stands, and the bytes that it leaves
 pub record Steps (s : Stepped) (r : ℕ) (m : Held) (standing : Standing) (after : List ℕ) : Type 0 where
   pub stands : standing ≡ s .standing
   pub holds : Holds after (withRules m (set (m .rules) r (s .state)))

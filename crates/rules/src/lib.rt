@@ -1,4 +1,4 @@
-// The sixteen rules at one observation (document 01, "Observing"): the monitor's words are lent and changed in place, and the book's table is lent by reference. Only the words of
+// The sixteen rules at one observation (document 01, "Observing"): the monitor's memory is lent and changed in place, and the book's table is lent by reference. Only the bytes of
 // the rules that the observation concerns are read or written, and the state of each goes by value.
 ghost use mathlib.Core.Path.{_≡_};
 ghost use Prim.Native.Nat.{ℕ, _<_};

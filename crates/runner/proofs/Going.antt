@@ -20,7 +20,7 @@ use Rattle.answers.proofs.Every.{every-monitor}
 use Rattle.answers.specs.declared.Observation.{Observation}
 use Rattle.answers.specs.declared.Answer.{Answer}
 use Rattle.answers.specs.declared.Answer.the-variants.{Whole, Open, Broken, Refused}
-use Rattle.monitor.specs.Promise.{seen, verdictIn, inWords, Freshes}
+use Rattle.monitor.specs.Promise.{seen, verdictIn, inMemory, Freshes}
 use Rattle.records.specs.Records.{recordAt}
 use Rattle.runner.specs.Log.{ended, refusedAt}
 use Rattle.runner.specs.Runs.{timeBefore, Accepted, Ends, Played, stays-whole, stays-open, breaks, refuses, stopsAt, SaysAt, Turns, endedIn}
@@ -34,7 +34,7 @@ pub record Going (log m : List ℕ) (i : ℕ) : Type 0 where
   pub latest : heldBy m .latest ≡ timeBefore log i
   pub accepted : Accepted log i
 
-pub going-start : {log m : List ℕ} → Freshes inWords m → Going log m 0
+pub going-start : {log m : List ℕ} → Freshes inMemory m → Going log m 0
 unfolding freshHeld
 going-start fresh =
     let e = fresh .holds in

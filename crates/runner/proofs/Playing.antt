@@ -19,7 +19,7 @@ use Rattle.words.specs.Words.{heldBy}
 use Rattle.answers.specs.declared.Observation.{Observation}
 use Rattle.answers.specs.declared.Answer.{Answer}
 use Rattle.answers.specs.declared.Answer.the-variants.{Whole, Open, Broken, Refused}
-use Rattle.monitor.specs.Promise.{seen, valuesOf, verdictIn, inWords, Follows, Freshes}
+use Rattle.monitor.specs.Promise.{seen, valuesOf, verdictIn, inMemory, Follows, Freshes}
 use Rattle.monitor.proofs.Agreement.{tracks-taken, tracks-verdict}
 use Rattle.records.specs.Records.{recordAt}
 use Rattle.runner.specs.Log.{ended, turnAt, play}
@@ -33,7 +33,7 @@ use Rattle.runner.proofs.Going.{Going, going-start, going-done, going-n
 
 pub record Reached (oracle : Oracle) (S : Sheet) (b : Book) (log : List ℕ) (n : ℕ) (m : List ℕ) (i : ℕ) : Type 0 where
   pub k : Kept
-  pub follows : Follows inWords S k b m
+  pub follows : Follows inMemory S k b m
   pub rest : play oracle log nothing 0 n ≡ play oracle log k i (n - i)
 
 module _ {oracle : Oracle} {S : Sheet} {b : Book} {log m : List ℕ} {n i : ℕ} (p : Reached oracle S b log n m i) where
@@ -58,7 +58,7 @@ module _ {oracle : Oracle} {S : Sheet} {b : Book} {log m : List ℕ} {n i : ℕ}
     answers : valuesOf (turns .answer) ≡ answerValues (turn .answer)
     answers = rw is at (turns .observes .answers b lent S (p .k) (p .follows) oracle right)
 
-    follows : Follows inWords S (turn .kept) b after
+    follows : Follows inMemory S (turn .kept) b after
     follows = rw is at (turns .observes .follows b lent S (p .k) (p .follows) oracle right)
 
     -- after a record: what a run that stops says is what the judge's says, or the monitor follows what the judge then keeps
@@ -85,7 +85,7 @@ pub record Playing (table log : List ℕ) (n : ℕ) (m : List ℕ) (i : ℕ) : T
   pub going : Going log m i
   pub judged : UnderBook table (λ oracle S b. Reached oracle S b log n m i)
 
-pub start : {table log : List ℕ} {n : ℕ} {m : List ℕ} → Freshes inWords m → Playing table log n m 0
+pub start : {table log : List ℕ} {n : ℕ} {m : List ℕ} → Freshes inMemory m → Playing table log n m 0
 start {log = log} fresh = record {
   within = omega arith;
   going = going-start fresh;

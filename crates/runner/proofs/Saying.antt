@@ -15,7 +15,7 @@ use Rattle.answers.specs.declared.Observation.{Observation}
 use Rattle.answers.specs.declared.Answer.{Answer}
 use Rattle.answers.specs.declared.Answer.the-variants.{Whole, Open, Broken, Refused}
 use Rattle.answers.proofs.Answer.{the-type}
-use Rattle.monitor.specs.Promise.{valuesOf, verdictIn, Says, inWords, Observes}
+use Rattle.monitor.specs.Promise.{valuesOf, verdictIn, Says, inMemory, Observes}
 use Rattle.runner.specs.Log.{openMask}
 use Rattle.runner.specs.Runs.{stopsAt, SaysAt, Turns}
 use Rattle.runner.specs.declared.Turned.{Turned}
@@ -59,9 +59,9 @@ module _ (m : List ℕ) (a : Answer) (says : Says a (heldBy m)) where
 
 -- ---- a turn, by the answer to its record
 
-module _ {table before after : List ℕ} {o : Observation} {s : Answer} (observes : Observes inWords table before o s after) {at : ℕ} {t : Turned} where
+module _ {table before after : List ℕ} {o : Observation} {s : Answer} (observes : Observes inMemory table before o s after) {at : ℕ} {t : Turned} where
   pub turn-stops : {a : Answer} → s ≡ a → t .stops ≡ stopsAt a → SaysAt a (heldBy after) at (t .outcome) → Turns table before o at t after
-  turn-stops {a} e stops says = record { answer = a; observes = subst (λ (x : Answer). Observes inWords table before o x after) e observes; stops = stops; says = says }
+  turn-stops {a} e stops says = record { answer = a; observes = subst (λ (x : Answer). Observes inMemory table before o x after) e observes; stops = stops; says = says }
 
   pub turn-goes : (variant s ≡ 0) ⊎ (variant s ≡ 1) → t .stops ≡ false → Turns table before o at t after
   turn-goes h goes = record { answer = s; observes = observes; stops = goes ∙ look s h .0; says = look s h .1 }

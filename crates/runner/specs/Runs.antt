@@ -13,7 +13,7 @@ use Rattle.words.specs.Words.{Held, heldBy}
 use Rattle.answers.specs.declared.Observation.{Observation}
 use Rattle.answers.specs.declared.Answer.{Answer}
 use Rattle.answers.specs.declared.Answer.the-variants.{Whole, Open, Broken, Refused}
-use Rattle.monitor.specs.Promise.{verdictIn, inWords, Observes}
+use Rattle.monitor.specs.Promise.{verdictIn, inMemory, Observes}
 use Rattle.records.specs.Records.{recordAt}
 use Rattle.runner.specs.Log.{badLength, ended, refusedAt, turnedAway, play, atMost, runOf}
 use Rattle.runner.specs.declared.Outcome.{Outcome}
@@ -84,7 +84,7 @@ SaysAt (Refused number) m at r = r ≡ refusedAt number (verdictIn m) (m .taken)
 -- the record is observed; whether the answer stops the run, and with what
 pub record Turns (table before : List ℕ) (o : Observation) (at : ℕ) (t : Turned) (after : List ℕ) : Type 0 where
   pub answer : Answer
-  pub observes : Observes inWords table before o answer after
+  pub observes : Observes inMemory table before o answer after
   pub stops : t .stops ≡ stopsAt answer
   pub says : SaysAt answer (heldBy after) at (t .outcome)
 

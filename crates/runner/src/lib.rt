@@ -1,5 +1,5 @@
 // A run over a log (document 01, "Running a log"): records are observed one after the other, from a fresh monitor, until a refusal, a break, the budget or the log's end.
-// The monitor's words are the run's own and are changed in place; the book's table is lent by reference.
+// The monitor's memory is the run's own and is changed in place; the book's table is lent by reference.
 ghost use mathlib.Core.Path.{_≡_};
 ghost use mathlib.Core.Bool.{true, false};
 ghost use Prim.Native.Nat.{_*_, _≤_, min};

@@ -10,14 +10,14 @@ use Rattle.pattern.specs.Model as M
 use Rattle.pattern.proofs.Basics.{is-true, is-false}
 use Rattle.pattern.proofs.Standing.{itself}
 use Rattle.pattern.proofs.Keeps.{Erred}
+use Rattle.rule_state.specs.declared.RuleState.{RuleState}
 use Rattle.tables.specs.Cells.{isInQ, endsP, Cell}
-use Rattle.step.specs.declared.RuleState.{RuleState}
 use Rattle.step.specs.declared.Stepped.{Stepped}
 use Rattle.step.specs.Standings.{statusOf, isBroken, isDue}
-use Rattle.step.specs.Steps.{brokenOf, finishedOf, spentOf, standingOf}
+use Rattle.step.specs.Steps.{brokenOf, spentOf, standingOf}
 use Rattle.step.specs.Shows.{Counting, Shows, begun, running}
 use Rattle.step.proofs.Sound.{Sound}
-use Rattle.step.proofs.Ranges as R
+use Rattle.step.proofs.Columns as K
 use Rattle.step.proofs.Flags.{clash, standingBy, status-by, running-by}
 
 -- what is to be shown of a step
@@ -44,26 +44,26 @@ timely rule n end time h = look (afterP rule n) h
 
 -- ---- a state at which a fragment has begun, in time
 
-module _ {rule : Rule} (sound : Sound rule) (time : ℕ) {st : RuleState} {S : M.RuleState} {j cell : ℕ} (w : Counting rule st S j) (c : Cell rule (S .fragment) j cell) where
+module _ {rule : Rule} (sound : Sound rule) (time : ℕ) {st : RuleState} {S : M.RuleState} {i cell : ℕ} (w : Counting rule st S) (c : Cell rule (S .fragment) i cell) where
   abbrev n : ℕ
   n = S .fragment
 
   abbrev C : Bool
-  C = complete (joinOf rule S) (S .count) (slotsOf rule S)
+  C = complete (joinOf rule S) (slotsOf rule S)
 
   abbrev G : Bool
-  G = canGrow (joinOf rule S) (S .count) (slotsOf rule S)
+  G = canGrow (joinOf rule S) (slotsOf rule S)
 
   abbrev D : Bool
   D = isInQ rule n || endsP rule n && (C && not G)
 
-  standing-is : standingOf cell (st .states) (st .count) ≡ standingBy (isLast rule n) C D
-  unfolding standingOf finishedOf spentOf
-  standing-is = rw (c .last, c .inQ, c .endsP, R.complete-is sound w cell c, R.grows-is sound w cell c)
+  standing-is : standingOf cell (st .lacking) (st .full) ≡ standingBy (isLast rule n) C D
+  unfolding standingOf spentOf
+  standing-is = rw (c .last, c .inQ, c .endsP, K.complete-is sound w, K.grows-is sound w c)
 
-  pub settled : inTime (rule .kind) (S .end) time ≡ true → Linked rule time (record { state = st; standing = standingOf cell (st .states) (st .count) }) S
+  pub settled : inTime (rule .kind) (S .end) time ≡ true → Linked rule time (record { state = st; standing = standingOf cell (st .lacking) (st .full) }) S
   settled t = record {
-    status = ap statusOf standing-is ∙ status-by (isLast rule n) C D ∙ sym (rw (R.restless sound w, R.not-erred sound w, t, and-false (pressed rule S)));
-    due = λ z. ap isDue standing-is ∙ running-by sound n (w .inside) C G ∙ sym (rw (R.restless sound w, R.not-erred sound w));
-    shows = λ z. begun j w;
+    status = ap statusOf standing-is ∙ status-by (isLast rule n) C D ∙ sym (rw (K.restless sound w, K.not-erred sound w, t, and-false (pressed rule S)));
+    due = λ z. ap isDue standing-is ∙ running-by sound n (w .inside) C G ∙ sym (rw (K.restless sound w, K.not-erred sound w));
+    shows = λ z. begun w;
   }

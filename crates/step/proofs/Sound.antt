@@ -9,7 +9,7 @@ use lib.ListN.{length, length-append}
 use Rattle.pattern.specs.Lists.{In, Distinct, isIn}
 use Rattle.pattern.specs.Meaning.{Range, fragmentNames, orderingNames, Kind, once, repeated, timed, Rule, namesOf, WellFormedRange, WellFormedFragment, WellFormedKind, WellFormed, Between}
 use Rattle.pattern.specs.Model.{lastFragments, roundOf, noFragment, fragmentAt, has}
-use Rattle.pattern.proofs.Running.{Fine}
+use Rattle.pattern.proofs.Fragment.{Fine}
 use Rattle.pattern.proofs.Basics.{each-in, isIn→, zero-one}
 use Rattle.layout.specs.Pages.{rangeAt, noRange}
 use Rattle.layout.proofs.PageLaws.{each-at, round-formed}

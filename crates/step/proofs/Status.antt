@@ -36,10 +36,10 @@ after-zero r h = lt-leb (length (r .p)) 0 h
 
 module _ (r : Rule) (some : 1 ≤ length (r .p)) (st : RuleState) where
   -- a rule that is pressed is not whole
-  pressed-not-last : pressed r st ≡ true → (complete (joinOf r st) (st .count) (slotsOf r st) && isLast r (st .fragment)) ≡ false
-  pressed-not-last h = look (afterP r (st .fragment)) refl (complete (joinOf r st) (st .count) (slotsOf r st)) refl (isLast r (st .fragment)) refl h
+  pressed-not-last : pressed r st ≡ true → (complete (joinOf r st) (slotsOf r st) && isLast r (st .fragment)) ≡ false
+  pressed-not-last h = look (afterP r (st .fragment)) refl (complete (joinOf r st) (slotsOf r st)) refl (isLast r (st .fragment)) refl h
     where
-      look : (a : Bool) → afterP r (st .fragment) ≡ a → (d : Bool) → complete (joinOf r st) (st .count) (slotsOf r st) ≡ d → (b : Bool) → isLast r (st .fragment) ≡ b → pressed r st ≡ true → (d && b) ≡ false
+      look : (a : Bool) → afterP r (st .fragment) ≡ a → (d : Bool) → complete (joinOf r st) (slotsOf r st) ≡ d → (b : Bool) → isLast r (st .fragment) ≡ b → pressed r st ≡ true → (d && b) ≡ false
       look a qa false qd b qb e = refl
       look a qa true qd false qb e = refl
       look true qa true qd true qb e = clash (rw (qa, qd, qb) at e)

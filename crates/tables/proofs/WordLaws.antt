@@ -6,7 +6,7 @@ use native.Mathlib.Omega.{arith}
 use lib.ListN.{length}
 use Rattle.bits.specs.Bits.{part}
 use Rattle.bits.proofs.BitLaws.{lowest, higher}
-use Rattle.pattern.specs.Meaning.{Range, Join, all, any, Fragment, WellFormedRange, WellFormedFragment}
+use Rattle.pattern.specs.Meaning.{Range, Join, all, any, allShuffled, anyShuffled, Fragment, WellFormedRange, WellFormedFragment}
 use Rattle.layout.specs.Layout.{joinNumber}
 use Rattle.layout.specs.Pages.{fragmentWord, rangeWord}
 use Rattle.tables.specs.Words.{joinIn, countIn, nameIn, bitIn, lowIn, highIn}
@@ -14,18 +14,21 @@ use Rattle.tables.proofs.Bounds.{cap-of}
 
 -- ---- a fragment's word
 
-join-small : (j : Join) → joinNumber j < 2 ^ 8
-join-small all = omega arith
-join-small any = omega arith
+-- a join's number has two digits
+pub join-few : (j : Join) → joinNumber j < 4
+join-few all = omega arith
+join-few any = omega arith
+join-few allShuffled = omega arith
+join-few anyShuffled = omega arith
 
 pub join-in : (f : Fragment) → joinIn (fragmentWord f) ≡ joinNumber (f .join)
-join-in f = lowest 8 (length (f .ranges)) (join-small (f .join))
+join-in f = lowest 8 (length (f .ranges)) (omega (arith, join-few (f .join)))
 
 pub count-in : (f : Fragment) → WellFormedFragment f → countIn (fragmentWord f) ≡ length (f .ranges)
 unfolding countIn
 count-in f w =
     let few : length (f .ranges) ≤ 8 = w .count .1 in
-    let count : part 8 8 (fragmentWord f) ≡ length (f .ranges) = omega (arith, join-small (f .join)) in
+    let count : part 8 8 (fragmentWord f) ≡ length (f .ranges) = omega (arith, join-few (f .join)) in
     rw count (cap-of 8 (length (f .ranges)) few)
 
 -- ---- a range's word

@@ -10,7 +10,7 @@ use lib.ListN.{length, getD}
 use Rattle.bits.specs.Bits.{part, flagAt}
 use Rattle.names.specs.Names.{member}
 use Rattle.pattern.specs.Lists.{isIn}
-use Rattle.pattern.specs.Meaning.{Fragment, Kind, once, repeated, timed, Rule, namesOf}
+use Rattle.pattern.specs.Meaning.{shuffled, Kind, once, repeated, timed, Rule, namesOf}
 use Rattle.pattern.specs.Model.{roundOf, isOnce, fragmentAt, isLast, afterP}
 use Rattle.layout.specs.Layout.{joinNumber, timeOf}
 use Rattle.layout.specs.Pages.{ruleAt, rangeAt}
@@ -31,7 +31,7 @@ lastIn cell = flagAt 8 cell
 abbrev pub freesIn : ℕ → Bool
 freesIn cell = flagAt 9 cell
 
--- of the fragment: the range's place in it, its count of ranges less one, its join, and whether no other range of it need come (1)
+-- of the fragment: the range's place in it, its count of ranges less one, its join, and of that the digit that says whether its blocks are shuffled
 abbrev pub indexIn : ℕ → ℕ
 indexIn cell = part 10 3 cell
 
@@ -41,8 +41,8 @@ lessIn cell = part 13 3 cell
 abbrev pub joinOfCell : ℕ → ℕ
 joinOfCell cell = part 16 2 cell
 
-abbrev pub looseIn : ℕ → ℕ
-looseIn cell = part 18 1 cell
+abbrev pub shuffledIn : ℕ → Bool
+shuffledIn cell = flagAt 17 cell
 
 -- of the clock: whether the fragment is in P, whether it is in Q, and whether it is the last of a P that a deadline follows
 abbrev pub inPIn : ℕ → Bool
@@ -87,10 +87,6 @@ endsP r n = isTimed (r .kind) && (not (afterP r n) && afterP r (suc n))
 unfoldable pub preceding : Rule → ℕ → ℕ
 preceding r n = cond (eqb n 0) (length (roundOf r) - 1) (n - 1)
 
--- a fragment in which no other range need come once one has: joined any, or of one range
-unfoldable pub looseOf : Fragment → ℕ
-looseOf f = cond (eqb (length (f .ranges)) 1) 1 (joinNumber (f .join))
-
 -- ---- the cells of a rule
 
 -- the cell of range i of fragment n
@@ -104,7 +100,7 @@ pub record Cell (r : Rule) (n i cell : ℕ) : Type 0 where
   pub index : indexIn cell ≡ i
   pub less : suc (lessIn cell) ≡ length (fragmentAt r n .ranges)
   pub join : joinOfCell cell ≡ joinNumber (fragmentAt r n .join)
-  pub loose : looseIn cell ≡ looseOf (fragmentAt r n)
+  pub shuffled : shuffledIn cell ≡ shuffled (fragmentAt r n .join)
   pub u : leastIn cell ≡ rangeAt r n i .u
   pub v : mostIn cell ≡ rangeAt r n i .v
   -- the clock's

@@ -4,7 +4,7 @@ ghost use mathlib.Core.Path.{_≡_};
 ghost use mathlib.Core.Bool.{cond};
 ghost use lib.Dec.{eqb};
 ghost use Prim.Native.Nat.{_<_};
-ghost use Rattle.tables.specs.Cells.{fragmentIn, beforeIn, lastIn, freesIn, indexIn, lessIn, looseIn, leastIn, mostIn, inPIn, inQIn, endsPIn, maskIn};
+ghost use Rattle.tables.specs.Cells.{fragmentIn, beforeIn, lastIn, freesIn, indexIn, lessIn, joinOfCell, shuffledIn, leastIn, mostIn, inPIn, inQIn, endsPIn, maskIn};
 ghost use Rattle.tables.specs.Words.{kindIn, countPIn, countQIn, triggerIn, timeIn, roundIn, joinIn, countIn, bitIn, lowIn, highIn};
 
 // ---- a rule's head
@@ -140,10 +140,16 @@ pub fn less_in(cell: u64) -> u8
     (cell / 8192 % 8) as u8
 }
 
-pub fn loose_in(cell: u64) -> u8
-    ensures { λ r. ⌜ r ≡ looseIn cell ⌝ }
+pub fn join_in(cell: u64) -> u8
+    ensures { λ r. ⌜ r ≡ joinOfCell cell ⌝ }
 {
-    (cell / 262144 % 2) as u8
+    (cell / 65536 % 4) as u8
+}
+
+pub fn is_shuffled(cell: u64) -> bool
+    ensures { λ r. ⌜ r ≡ shuffledIn cell ⌝ }
+{
+    cell / 131072 % 2 == 1
 }
 
 pub fn least_in(cell: u64) -> u16

@@ -1,12 +1,12 @@
--- Sixteen states that are taken over one by one, into words or out of them: after r turns the first r stand there, and after sixteen all. Assumes nothing.
+-- Sixteen states that are taken over one by one, into memory or out of it: after r turns the first r stand there, and after sixteen all. Assumes nothing.
 use mathlib.Core.Path.{_≡_, sym, ap, _∙_}
 use mathlib.Core.List.{List}
 use Prim.Native.Nat.{ℕ}
 use native.Mathlib.Omega.{arith}
 use lib.ListN.{length, getD}
 use lib.Seq.{ext-getD}
-use Rattle.step.specs.declared.RuleState.{RuleState}
-use Rattle.fragment.specs.Upto.{mapN, length-mapN}
+use Rattle.rule_state.specs.declared.RuleState.{RuleState}
+use Rattle.words.specs.Upto.{mapN, length-mapN}
 use Rattle.words.specs.Words.{noState}
 use Rattle.words.proofs.Laws.{blank}
 use Rattle.words.proofs.Places.{getD-mapN}

@@ -4,7 +4,7 @@ use Rattle.words.specs.Words.{Held}
 use Rattle.monitor.specs.Promise.{Form}
 use Rattle.value.specs.declared.Monitor.{Monitor}
 
--- a monitor's numbers, as words hold them
+-- a monitor's numbers, as memory holds them
 abbrev pub numbersOf : Monitor → Held
 numbersOf m = record { rules = m .rules; taken = m .taken; latest = m .latest; verdict = m .verdict; mask = m .mask; dues = m .dues }
 

@@ -1,17 +1,17 @@
 // The monitor as a value (document 01, "What to write where": "Per-rule state struct holding an array of eight recogniser states, passed and returned by value"), for a session that keeps
-// one. Its calls put it into words, make the calls of crate `monitor` there and take it out again, and promise the same.
+// one. Its calls put it into memory, make the calls of crate `monitor` there and take it out again, and promise the same.
 ghost use mathlib.Core.Path.{_≡_};
 ghost use Rattle.words.specs.Words.{heldBy, Holds, nothingTaken};
 ghost use Rattle.monitor.specs.Promise.{Observes, Freshes, Says};
 ghost use Rattle.value.specs.Value.{numbersOf, byValue};
 use answers::Answer;
 use answers::Observation;
-use step::RuleState;
+use rule_state::RuleState;
 use tables::Table;
 use words::Memory;
 
-// "The monitor's state holds, for each rule, its fragment number, eight recogniser states, one count and the end time of P." Beside the sixteen: the number taken, the latest time, the
-// verdict (0 whole, 1 open, 2 broken) with its mask, and the rules whose deadline runs.
+// "The monitor's state holds, for each rule, its fragment number, eight recogniser states, .. and the end time of P", and "eight counts for a fragment where it kept one" (document 02,
+// change 1). Beside the sixteen: the number taken, the latest time, the verdict (0 whole, 1 open, 2 broken) with its mask, and the rules whose deadline runs.
 pub struct Monitor {
     pub rules: [RuleState; 16],
     pub taken: u32,
@@ -27,11 +27,11 @@ pub struct Answered {
     pub answer: Answer,
 }
 
-// Sixteen states in words, and nothing beside them.
-fn rules_in_words(rules: [RuleState; 16]) -> Memory
+// Sixteen states in memory, and nothing beside them.
+fn rules_in_memory(rules: [RuleState; 16]) -> Memory
     ensures { λ w. ⌜ Holds w (nothingTaken rules) ⌝ }
 {
-    let mut w = [0u64; words::LENGTH];
+    let mut w = [0u8; words::LENGTH];
     let mut r = 0usize;
     while r < 16 {
         let st = rules[r];
@@ -41,17 +41,17 @@ fn rules_in_words(rules: [RuleState; 16]) -> Memory
     w
 }
 
-// A monitor in words.
-fn in_words(m: Monitor) -> Memory
+// A monitor in memory.
+fn in_memory(m: Monitor) -> Memory
     ensures { λ w. ⌜ Holds w (numbersOf m) ⌝ }
 {
     let rules = m.rules;
-    let mut w = rules_in_words(rules);
+    let mut w = rules_in_memory(rules);
     words::settle(&mut w, m.taken, m.latest, m.verdict, m.mask, m.dues);
     w
 }
 
-// The sixteen states that words hold.
+// The sixteen states that a memory holds.
 fn rules_of(w: &Memory) -> [RuleState; 16]
     ensures { λ rules. ⌜ rules ≡ heldBy (now (w .entry)) .rules ⌝ }
 {
@@ -59,7 +59,9 @@ fn rules_of(w: &Memory) -> [RuleState; 16]
         fragment: 0,
         current: 0,
         states: [0u8; 8],
-        count: 0,
+        counts: [0u16; 8],
+        lacking: 0,
+        full: 0,
         end: 0,
     };
     let mut rules = [none; 16];
@@ -72,8 +74,8 @@ fn rules_of(w: &Memory) -> [RuleState; 16]
     rules
 }
 
-// The monitor that words hold.
-fn of_words(w: &Memory) -> Monitor
+// The monitor that a memory holds.
+fn of_memory(w: &Memory) -> Monitor
     ensures { λ m. ⌜ numbersOf m ≡ heldBy (now (w .entry)) ⌝ }
 {
     let rules = rules_of(w);
@@ -87,13 +89,13 @@ fn of_words(w: &Memory) -> Monitor
     }
 }
 
-// One observation by value: what `monitor::observe` does in words.
+// One observation by value: what `monitor::observe` does in memory.
 pub fn step(table: &Table, m: Monitor, o: Observation) -> Answered
     ensures { λ r. ⌜ Observes byValue (now (table .entry)) m o (r .answer) (r .monitor) ⌝ }
 {
-    let mut w = in_words(m);
+    let mut w = in_memory(m);
     let answer = monitor::observe(table, &mut w, o);
-    let next = of_words(&w);
+    let next = of_memory(&w);
     Answered {
         monitor: next,
         answer: answer,
@@ -105,7 +107,7 @@ pub fn start() -> Monitor
     ensures { λ m. ⌜ Freshes byValue m ⌝ }
 {
     let w = monitor::fresh();
-    of_words(&w)
+    of_memory(&w)
 }
 
 // The verdict that a monitor holds.

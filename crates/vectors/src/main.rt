@@ -21,7 +21,7 @@ fn call(sheet: &[u8], n: usize, log: &[u8], m: usize, budget: u32, out: &mut [u8
     if m > log.len() {
         return;
     }
-    host::guard3_run(&sheet[..n], &log[..m], budget, out);
+    host::guard4_run(&sheet[..n], &log[..m], budget, out);
 }
 
 // Reads the next case and runs it, and answers whether it was there.

@@ -6,7 +6,7 @@ use Prim.Native.Nat.{ℕ, zero, suc, _+_, _<_, _≤_}
 use native.Mathlib.Nat.{add-zero, zero-add, not-suc-le-zero}
 use native.Mathlib.Omega.{arith}
 use lib.ListN.{length, getD, set}
-use Rattle.fragment.specs.Upto.{mapN}
+use Rattle.words.specs.Upto.{mapN}
 
 module _ {A : Type 0} where
   -- two changes that do the same at the n places from k on

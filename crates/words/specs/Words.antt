@@ -1,29 +1,46 @@
--- A monitor's words, and what they hold (document 01, "The recogniser of a range"): "The monitor's state holds, for each rule, its fragment number, eight recogniser states, one count
--- and the end time of P." Words 2 r and 2 r + 1 are rule r's; the last two are the monitor's own. Every list of words holds some monitor.
+-- A monitor's memory, and what it holds (document 01, "The recogniser of a range"; document 02, change 1): "The monitor's state holds, for each rule, its fragment number, eight recogniser
+-- states, .. and the end time of P", with "eight counts for a fragment where it kept one". It is bytes: 32 for each rule, rule r's from 32 r on, and then the monitor's own 16. Numbers of
+-- two and four bytes are little-endian, as in a sheet and in a log (`number`). Every list of bytes holds some monitor.
 -- Assumes nothing.
 use mathlib.Core.Path.{_≡_}
-use mathlib.Core.List.{List}
-use Prim.Native.Nat.{ℕ, _+_, _*_, _/_, _%_}
+use mathlib.Core.List.{List, [], _∷_}
+use Prim.Native.Nat.{ℕ, zero, suc, _+_, _*_}
 use lib.ListN.{length, getD, set, replicate}
-use Rattle.step.specs.declared.RuleState.{RuleState}
-use Rattle.fragment.specs.Upto.{mapN}
-use Rattle.fragment.specs.Fragments.{zeros, digits}
+use Rattle.layout.specs.Form.{number}
+use Rattle.rule_state.specs.declared.RuleState.{RuleState}
+use Rattle.words.specs.Upto.{mapN}
 
--- ---- a rule's two words
+-- ---- a rule's 32 bytes
 
--- the state of a rule: in the first word the eight recogniser states, a byte each, the first range's lowest; in the second its fragment number, a byte; the name whose range counts, the
--- next byte; its count, the next two; and the end time of P, the upper half
-unfoldable pub stateIn : ℕ → ℕ → RuleState
-stateIn states place = record { fragment = place % 256; current = place / 256 % 256; states = digits 8 states; count = place / 65536 % 65536; end = place / 4294967296 % 4294967296 }
+-- n numbers of some bytes each, one after the other from an offset on
+abbrev pub numbersFrom : List ℕ → (size n at : ℕ) → List ℕ
+numbersFrom bytes size zero at = []
+numbersFrom bytes size (suc n) at = number bytes size at ∷ numbersFrom bytes size n (at + size)
+
+-- where a rule's bytes begin
+abbrev pub ruleOffset : ℕ → ℕ
+ruleOffset r = 32 * r
+
+-- the state of a rule whose bytes begin at k
+unfoldable pub stateIn : List ℕ → ℕ → RuleState
+stateIn bytes k = record {
+  fragment = getD bytes k 0;
+  current = getD bytes (k + 1) 0;
+  lacking = getD bytes (k + 2) 0;
+  full = getD bytes (k + 3) 0;
+  end = number bytes 4 (k + 4);
+  states = numbersFrom bytes 1 8 (k + 8);
+  counts = numbersFrom bytes 2 8 (k + 16);
+}
 
 -- a state for numbers past the sixteenth, which are not looked at
 abbrev pub noState : RuleState
-noState = record { fragment = 0; current = 0; states = zeros; count = 0; end = 0 }
+noState = record { fragment = 0; current = 0; states = replicate 8 0; counts = replicate 8 0; lacking = 0; full = 0; end = 0 }
 
 unfoldable pub rulesIn : List ℕ → List RuleState
-rulesIn words = mapN (λ r st. stateIn (getD words (2 * r) 0) (getD words (2 * r + 1) 0)) 0 16 (replicate 16 noState)
+rulesIn bytes = mapN (λ r st. stateIn bytes (ruleOffset r)) 0 16 (replicate 16 noState)
 
--- ---- the monitor: what its words hold
+-- ---- the monitor: what its bytes hold
 
 -- The verdict is 0 whole, 1 open, 2 broken; the mask is of the open rules, or of those that broke; the dues are the rules whose deadline runs.
 pub record Held : Type 0 where
@@ -34,44 +51,53 @@ pub record Held : Type 0 where
   pub mask : ℕ
   pub dues : ℕ
 
--- its own two words: one for the number taken and the latest time; the last for the verdict, the mask and the dues
-abbrev pub progressAt : ℕ
-progressAt = 32
+-- its own 16 bytes: four for the number taken, four for the latest time, one for the verdict, one that holds nothing, two for the mask, two for the dues, two that hold nothing
+abbrev pub takenAt : ℕ
+takenAt = 512
 
-abbrev pub lastAt : ℕ
-lastAt = 33
+abbrev pub latestAt : ℕ
+latestAt = 516
 
--- the monitor that the words hold
+abbrev pub verdictAt : ℕ
+verdictAt = 520
+
+abbrev pub maskAt : ℕ
+maskAt = 522
+
+abbrev pub duesAt : ℕ
+duesAt = 524
+
+-- the monitor that the bytes hold
 abbrev pub heldBy : List ℕ → Held
-heldBy words = record {
-  rules = rulesIn words;
-  taken = getD words progressAt 0 % 4294967296;
-  latest = getD words progressAt 0 / 4294967296 % 4294967296;
-  verdict = getD words lastAt 0 % 256;
-  mask = getD words lastAt 0 / 65536 % 65536;
-  dues = getD words lastAt 0 / 4294967296 % 65536;
+heldBy bytes = record {
+  rules = rulesIn bytes;
+  taken = number bytes 4 takenAt;
+  latest = number bytes 4 latestAt;
+  verdict = getD bytes verdictAt 0;
+  mask = number bytes 2 maskAt;
+  dues = number bytes 2 duesAt;
 }
 
--- as many words as a monitor has: two for each of the sixteen rules, and its own two
+-- as many bytes as a monitor has: 32 for each of the sixteen rules, and its own 16
 abbrev pub memoryLength : ℕ
-memoryLength = 34
+memoryLength = 528
 
 abbrev pub Fits : List ℕ → Type 0
-Fits words = length words ≡ memoryLength
+Fits bytes = length bytes ≡ memoryLength
 
--- these words are a monitor's memory, and hold m
-pub record Holds (words : List ℕ) (m : Held) : Type 0 where
-  pub fits : Fits words
-  pub held : heldBy words ≡ m
+-- these bytes are a monitor's memory, and hold m
+pub record Holds (bytes : List ℕ) (m : Held) : Type 0 where
+  pub fits : Fits bytes
+  pub held : heldBy bytes ≡ m
 
--- bits 8 to 15 and 48 to 63 of the last word are 0: these hold nothing, and every other bit of the words holds something
+-- bytes 521, 526 and 527 are 0: these hold nothing, and every other byte holds something
 abbrev pub Blank : List ℕ → Type 0
-Blank words = let m : Held = heldBy words in getD words lastAt 0 ≡ m .verdict + 65536 * m .mask + 4294967296 * m .dues
+Blank bytes = (getD bytes 521 0 ≡ 0) × (number bytes 2 526 ≡ 0)
 
--- the words hold m, and nothing beside it
-pub record Clean (words : List ℕ) (m : Held) : Type 0 where
-  pub holds : Holds words m
-  pub blank : Blank words
+-- the bytes hold m, and nothing beside it
+pub record Clean (bytes : List ℕ) (m : Held) : Type 0 where
+  pub holds : Holds bytes m
+  pub blank : Blank bytes
 
 -- ---- the changes
 

@@ -73,10 +73,10 @@ impl fmt::Display for Verdict {
 ///
 /// ```
 /// use guard::{Book, Refusal};
-/// let refusal = Book::open(b"LOB\x02\x00").unwrap_err();
+/// let refusal = Book::open(b"LOB\x03\x00").unwrap_err();
 /// assert_eq!(refusal, Refusal::Version { place: 3 });
 /// assert_eq!((refusal.number(), refusal.place()), (3, Some(3)));
-/// assert_eq!(refusal.to_string(), "refusal 3 at byte 3: the sheet's version is not 1");
+/// assert_eq!(refusal.to_string(), "refusal 3 at byte 3: the sheet's version is neither 1 nor 2");
 /// ```
 #[derive(Clone, Copy, Debug, PartialEq, Eq, Hash)]
 #[non_exhaustive]
@@ -86,9 +86,9 @@ pub enum Refusal {
     Truncated { place: u32 },
     /// 2: the mark is not "LOB".
     Mark { place: u32 },
-    /// 3: the version is not 1.
+    /// 3: the version is neither 1 nor 2.
     Version { place: u32 },
-    /// 4: a count, kind or join outside its values.
+    /// 4: a count, kind or join outside its values. A join is 0 or 1 in version 1, and 0 to 3 in version 2.
     Value { place: u32 },
     /// 5: a Q count, trigger or t where 0 is due.
     NotZero { place: u32 },
@@ -159,8 +159,12 @@ impl Refusal {
         match self {
             Truncated { place } => (1, Some(place), "the sheet is cut off: a field doesn't fit in the bytes left"),
             Mark { place } => (2, Some(place), "the sheet's mark is not \"LOB\""),
-            Version { place } => (3, Some(place), "the sheet's version is not 1"),
-            Value { place } => (4, Some(place), "a count, kind or join is outside its values"),
+            Version { place } => (3, Some(place), "the sheet's version is neither 1 nor 2"),
+            Value { place } => (
+                4,
+                Some(place),
+                "a count, kind or join is outside its values (a join is 0 or 1 in version 1, 0 to 3 in version 2)",
+            ),
             NotZero { place } => (5, Some(place), "a Q count, trigger or t is not 0 where 0 is due"),
             Name { place } => (6, Some(place), "a trigger or a range's name is above 63"),
             Bounds { place } => (7, Some(place), "a range's u is 0, or its v is below u"),

@@ -1,11 +1,11 @@
 //! The library's calls, as safe functions. Each call is total: it needs valid pointers to memory that does not overlap, and nothing else, and it writes only what is lent to it
 //! to be written. Rust's references give just that, and every bit pattern of the arrays is allowed.
 
-/// How many words a monitor has: `GUARD_MONITOR_WORDS` in `include/guard.h`.
-pub const MONITOR_WORDS: usize = 34;
+/// How many bytes a monitor has: `GUARD_MONITOR_BYTES` in `include/guard.h`.
+pub const MONITOR_BYTES: usize = 528;
 
-/// A monitor's words, which are the guard's own: a host stores and copies them, and does not read them.
-pub type Words = [u64; MONITOR_WORDS];
+/// A monitor's bytes, which are the guard's own: a host stores and copies them, and does not read them.
+pub type MonitorBytes = [u8; MONITOR_BYTES];
 
 /// How many words a book has: `GUARD_BOOK_WORDS` there.
 pub(crate) const BOOK_WORDS: usize = 1106;
@@ -16,13 +16,13 @@ pub(crate) type Tables = [u64; BOOK_WORDS];
 extern "C" {
     fn guard_library_version() -> u32;
     fn guard_sheet_version() -> u32;
-    fn guard3_run(sheet: *const u8, sheet_length: usize, log: *const u8, log_length: usize, budget: u32, out: *mut u8, out_length: usize) -> u32;
-    fn guard3_open(sheet: *const u8, sheet_length: usize, book: *mut u64, monitor: *mut u64) -> u64;
-    fn guard3_start(monitor: *mut u64);
-    fn guard3_event(book: *const u64, monitor: *mut u64, name: u32, time: u32) -> u64;
-    fn guard3_clock(book: *const u64, monitor: *mut u64, time: u32) -> u64;
-    fn guard3_verdict(monitor: *const u64) -> u64;
-    fn guard3_taken(monitor: *const u64) -> u32;
+    fn guard4_run(sheet: *const u8, sheet_length: usize, log: *const u8, log_length: usize, budget: u32, out: *mut u8, out_length: usize) -> u32;
+    fn guard4_open(sheet: *const u8, sheet_length: usize, book: *mut u64, monitor: *mut u8) -> u64;
+    fn guard4_start(monitor: *mut u8);
+    fn guard4_event(book: *const u64, monitor: *mut u8, name: u32, time: u32) -> u64;
+    fn guard4_clock(book: *const u64, monitor: *mut u8, time: u32) -> u64;
+    fn guard4_verdict(monitor: *const u8) -> u64;
+    fn guard4_taken(monitor: *const u8) -> u32;
 }
 
 /// The version of the library that is linked. This package is of [`LIBRARY_VERSION`](crate::LIBRARY_VERSION).
@@ -40,43 +40,43 @@ pub fn sheet_version() -> u32 {
 /// The call over a log: 15 and `out` as it was if that has under 12 bytes, else 0 and the twelve bytes.
 pub(crate) fn call(sheet: &[u8], log: &[u8], budget: u32, out: &mut [u8]) -> u32 {
     // SAFETY: each pointer comes with its slice's length, and `out`, borrowed mutably, overlaps neither of the others.
-    unsafe { guard3_run(sheet.as_ptr(), sheet.len(), log.as_ptr(), log.len(), budget, out.as_mut_ptr(), out.len()) }
+    unsafe { guard4_run(sheet.as_ptr(), sheet.len(), log.as_ptr(), log.len(), budget, out.as_mut_ptr(), out.len()) }
 }
 
 /// Reads a sheet into a book's words and makes a fresh monitor; a refused sheet changes neither.
-pub(crate) fn open(sheet: &[u8], tables: &mut Tables, monitor: &mut Words) -> u64 {
+pub(crate) fn open(sheet: &[u8], tables: &mut Tables, monitor: &mut MonitorBytes) -> u64 {
     // SAFETY: the sheet's pointer comes with its length; both arrays have the lengths that the call wants, by their types; all are distinct, since those are borrowed mutably.
-    unsafe { guard3_open(sheet.as_ptr(), sheet.len(), tables.as_mut_ptr(), monitor.as_mut_ptr()) }
+    unsafe { guard4_open(sheet.as_ptr(), sheet.len(), tables.as_mut_ptr(), monitor.as_mut_ptr()) }
 }
 
 /// Makes a fresh monitor, the same for every book.
-pub(crate) fn start(monitor: &mut Words) {
+pub(crate) fn start(monitor: &mut MonitorBytes) {
     // SAFETY: the monitor has the length that the call wants, by its type, and is borrowed mutably.
-    unsafe { guard3_start(monitor.as_mut_ptr()) }
+    unsafe { guard4_start(monitor.as_mut_ptr()) }
 }
 
 /// One event. Every name of 64 or more is refused, 255 too.
-pub(crate) fn event(tables: &Tables, monitor: &mut Words, name: u32, time: u32) -> u64 {
+pub(crate) fn event(tables: &Tables, monitor: &mut MonitorBytes, name: u32, time: u32) -> u64 {
     // SAFETY: both arrays have the lengths that the call wants, by their types; it only reads the book, and the monitor, borrowed mutably, is apart from it.
-    unsafe { guard3_event(tables.as_ptr(), monitor.as_mut_ptr(), name, time) }
+    unsafe { guard4_event(tables.as_ptr(), monitor.as_mut_ptr(), name, time) }
 }
 
 /// One clock reading.
-pub(crate) fn clock(tables: &Tables, monitor: &mut Words, time: u32) -> u64 {
+pub(crate) fn clock(tables: &Tables, monitor: &mut MonitorBytes, time: u32) -> u64 {
     // SAFETY: as for `event`.
-    unsafe { guard3_clock(tables.as_ptr(), monitor.as_mut_ptr(), time) }
+    unsafe { guard4_clock(tables.as_ptr(), monitor.as_mut_ptr(), time) }
 }
 
 /// The verdict that a monitor holds.
-pub(crate) fn verdict(monitor: &Words) -> u64 {
+pub(crate) fn verdict(monitor: &MonitorBytes) -> u64 {
     // SAFETY: the monitor has the length that the call wants, by its type, and is only read.
-    unsafe { guard3_verdict(monitor.as_ptr()) }
+    unsafe { guard4_verdict(monitor.as_ptr()) }
 }
 
 /// The number of observations that a monitor has taken.
-pub(crate) fn taken(monitor: &Words) -> u32 {
+pub(crate) fn taken(monitor: &MonitorBytes) -> u32 {
     // SAFETY: as for `verdict`.
-    unsafe { guard3_taken(monitor.as_ptr()) }
+    unsafe { guard4_taken(monitor.as_ptr()) }
 }
 
 #[cfg(test)]
@@ -93,7 +93,7 @@ mod tests {
     #[test]
     fn the_lengths_of_the_header() {
         assert_eq!(defined("GUARD_BOOK_WORDS"), Some(BOOK_WORDS));
-        assert_eq!(defined("GUARD_MONITOR_WORDS"), Some(MONITOR_WORDS));
+        assert_eq!(defined("GUARD_MONITOR_BYTES"), Some(MONITOR_BYTES));
     }
 
     /// "15 output under 12 bytes: it is unchanged and the call returns 15"; "Later bytes don't change."
@@ -117,9 +117,10 @@ mod tests {
     fn a_refused_sheet_changes_nothing() {
         let old: Tables = std::array::from_fn(|i| 0x9E37_79B9_7F4A_7C15_u64.wrapping_mul(i as u64 + 1));
         let mut tables = old;
-        let mut monitor: Words = [0x0F1E_2D3C_4B5A_6978; MONITOR_WORDS];
+        let before: MonitorBytes = std::array::from_fn(|i| (i * 37 + 11) as u8);
+        let mut monitor = before;
         assert_eq!(open(b"LOC\x01\0", &mut tables, &mut monitor), 3 | 2 << 8, "refused, 2, at 0");
-        assert_eq!(monitor, [0x0F1E_2D3C_4B5A_6978; MONITOR_WORDS]);
+        assert_eq!(monitor, before);
         assert_eq!(tables, old);
     }
 }

@@ -1,7 +1,7 @@
 //! A book, and live sessions under it.
 
 use crate::answers::{answer_of, Refusal, Verdict};
-use crate::ffi::{self, Tables, Words, BOOK_WORDS, MONITOR_WORDS};
+use crate::ffi::{self, MonitorBytes, Tables, BOOK_WORDS, MONITOR_BYTES};
 use alloc::boxed::Box;
 use core::borrow::Borrow;
 use core::fmt;
@@ -25,7 +25,7 @@ impl Book {
     /// ```
     pub fn open(sheet: &[u8]) -> Result<Book, Refusal> {
         let mut tables = Box::new([0; BOOK_WORDS]);
-        let mut monitor = [0; MONITOR_WORDS];
+        let mut monitor = [0; MONITOR_BYTES];
         let opened = answer(ffi::open(sheet, &mut tables, &mut monitor), true);
         opened.map(|_| Book { tables })
     }
@@ -48,7 +48,7 @@ fn answer(word: u64, of_sheet: bool) -> Result<Verdict, Refusal> {
     answer_of(word as u8, (word >> 8) as u8, (word >> 16) as u16, place, of_sheet.then_some(place))
 }
 
-/// One plugin's session: everything that was observed so far, in one monitor of [`MONITOR_WORDS`](crate::MONITOR_WORDS) words.
+/// One plugin's session: everything that was observed so far, in one monitor of [`MONITOR_BYTES`](crate::MONITOR_BYTES) bytes.
 ///
 /// The book is borrowed, or shared: `B` is `&Book` from [`Book::session`], or for example an `Arc<Book>` where a session has to own its book.
 ///
@@ -85,7 +85,7 @@ fn answer(word: u64, of_sheet: bool) -> Result<Verdict, Refusal> {
 #[derive(Clone)]
 pub struct Session<B: Borrow<Book>> {
     book: B,
-    monitor: Words,
+    monitor: MonitorBytes,
 }
 
 impl<B: Borrow<Book>> Session<B> {
@@ -93,19 +93,19 @@ impl<B: Borrow<Book>> Session<B> {
     pub fn under(book: B) -> Session<B> {
         let mut session = Session {
             book,
-            monitor: [0; MONITOR_WORDS],
+            monitor: [0; MONITOR_BYTES],
         };
         session.restart();
         session
     }
 
-    /// Goes on from stored words, those of [`words`](Session::words) under an equal book, or a fresh session's under any. For any others the verdicts are free, and nothing else happens.
-    pub fn resume(book: B, words: Words) -> Session<B> {
-        Session { book, monitor: words }
+    /// Goes on from stored bytes, those of [`bytes`](Session::bytes) under an equal book, or a fresh session's under any. For any others the verdicts are free, and nothing else happens.
+    pub fn resume(book: B, bytes: MonitorBytes) -> Session<B> {
+        Session { book, monitor: bytes }
     }
 
-    /// The words of the monitor, to be stored.
-    pub fn words(&self) -> Words {
+    /// The bytes of the monitor, to be stored.
+    pub fn bytes(&self) -> MonitorBytes {
         self.monitor
     }
 

@@ -64,7 +64,7 @@ fn numbers(answer: Result<Verdict, Refusal>) -> [u32; 4] {
 
 /// A session that has taken so many before.
 fn late(book: &Book, before: u32) -> Session<&Book> {
-    Session::resume(book, with_taken(book.session().words(), before))
+    Session::resume(book, with_taken(book.session().bytes(), before))
 }
 
 /// Plays the list and answers how many observations it had.
@@ -73,10 +73,13 @@ fn hold_session(number: u32, book: &Book, before: u32, bytes: &mut Bytes) -> u32
     let count = bytes.two();
     for i in 0..count {
         let (clock, name, time, due) = (bytes.one(), bytes.four(), bytes.four(), bytes.answer());
-        let words = session.words();
+        let before = session.bytes();
         let answer = if clock == 1 { session.clock(time) } else { session.event(name, time) };
         assert_eq!(numbers(answer), due, "case {number}, observation {i}");
-        assert!(answer.is_ok() || session.words() == words, "case {number}: a refusal changed the monitor");
+        assert!(
+            answer.is_ok() || session.bytes() == before,
+            "case {number}: a refusal changed the monitor"
+        );
     }
     assert_eq!(numbers(session.verdict()), bytes.answer(), "case {number}, verdict");
     assert_eq!(session.taken(), bytes.four(), "case {number}, taken");

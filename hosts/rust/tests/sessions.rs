@@ -1,9 +1,9 @@
-//! Sessions: several under one book, restarts, stored words, refusals that leave everything, the count's end, a stopped book, threads.
+//! Sessions: several under one book, restarts, stored bytes, refusals that leave everything, the count's end, a stopped book, threads.
 
 mod common;
 
-use common::{with_taken, N, R, T};
-use guard::{Book, Refusal, Session, Verdict, MONITOR_WORDS};
+use common::{with_taken, N, O, R, T};
+use guard::{Book, Refusal, Session, Verdict, MONITOR_BYTES};
 use std::sync::Arc;
 
 const OPEN: Result<Verdict, Refusal> = Ok(Verdict::Open { mask: 1 });
@@ -31,24 +31,24 @@ fn two_sessions_under_one_book() {
 #[test]
 fn a_restart_is_a_fresh_session() {
     let book = Book::open(&T).unwrap();
-    let fresh = book.session().words();
+    let fresh = book.session().bytes();
     let mut session = book.session();
     assert_eq!(session.event(1, 7), Ok(Verdict::Broken { at: 1, mask: 1 }));
     session.restart();
-    assert_eq!((session.words(), session.taken(), session.verdict()), (fresh, 0, Ok(Verdict::Whole)));
+    assert_eq!((session.bytes(), session.taken(), session.verdict()), (fresh, 0, Ok(Verdict::Whole)));
     assert_eq!(session.event(0, 0), OPEN);
 }
 
 #[test]
-fn a_session_goes_on_from_stored_words() {
+fn a_session_goes_on_from_stored_bytes() {
     let book = Book::open(&T).unwrap();
     let mut session = book.session();
     session.event(0, 0).unwrap();
     session.event(0, 5).unwrap();
-    let words = session.words();
+    let bytes = session.bytes();
     let mut copy = session.clone();
     let again = Book::open(&T).unwrap();
-    let mut resumed = Session::resume(&again, words);
+    let mut resumed = Session::resume(&again, bytes);
     assert_eq!(resumed.taken(), 2);
     assert_eq!(resumed.event(1, 16), Ok(Verdict::Broken { at: 3, mask: 1 }));
     assert_eq!(copy.event(1, 15), Ok(Verdict::Whole));
@@ -60,14 +60,14 @@ fn a_refused_observation_changes_nothing() {
     let book = Book::open(&R).unwrap();
     let mut session = book.session();
     assert_eq!(session.event(1, 5), OPEN);
-    let words = session.words();
+    let bytes = session.bytes();
     for name in [64, 127, 128, 254, 255, 256, 257, 319, 65536, 1 << 31, u32::MAX] {
         assert_eq!((session.event(name, 4), session.event(name, 6)), (refused_name(), refused_name()));
     }
     for time in 0..5 {
         assert_eq!((session.event(0, time), session.clock(time)), (refused_time(), refused_time()));
     }
-    assert_eq!((session.words(), session.taken(), session.verdict()), (words, 1, OPEN));
+    assert_eq!((session.bytes(), session.taken(), session.verdict()), (bytes, 1, OPEN));
     assert_eq!(session.event(0, 5), OPEN);
     assert_eq!(session.event(2, 5), Ok(Verdict::Whole));
 }
@@ -78,17 +78,17 @@ fn the_count_ends() {
     let book = Book::open(&T).unwrap();
     let mut session = book.session();
     session.event(0, 7).unwrap();
-    let mut session = Session::resume(&book, with_taken(session.words(), u32::MAX - 1));
+    let mut session = Session::resume(&book, with_taken(session.bytes(), u32::MAX - 1));
     assert_eq!(session.taken(), u32::MAX - 1);
     assert_eq!(session.event(0, 8), OPEN);
     assert_eq!(session.taken(), u32::MAX);
-    let words = session.words();
+    let bytes = session.bytes();
     assert_eq!(
         (session.event(0, 8), session.clock(9)),
         (Err(Refusal::CountFull), Err(Refusal::CountFull))
     );
     assert_eq!((session.event(64, 0), session.event(0, 7)), (refused_name(), refused_time()));
-    assert_eq!((session.words(), session.verdict()), (words, OPEN));
+    assert_eq!((session.bytes(), session.verdict()), (bytes, OPEN));
 }
 
 /// "A stopped book gives that same answer to every later observation, unchecked."
@@ -98,12 +98,12 @@ fn a_stopped_book_answers_the_same() {
     let mut session = book.session();
     let broken = Ok(Verdict::Broken { at: 1, mask: 1 });
     assert_eq!(session.event(2, 50), broken);
-    let words = session.words();
+    let bytes = session.bytes();
     assert_eq!(
         (session.event(64, 50), session.event(0, 49), session.clock(0), session.event(0, 60)),
         (broken, broken, broken, broken)
     );
-    assert_eq!((session.words(), session.taken()), (words, 1));
+    assert_eq!((session.bytes(), session.taken()), (bytes, 1));
     assert_eq!(session.verdict(), broken);
 }
 
@@ -125,6 +125,19 @@ fn refused_sheets() {
     assert_eq!(with(29, 0), Refusal::NameTwice { place: 29 });
     assert_eq!(with(5, 4), Refusal::Direction { place: 17 });
     assert_eq!(refusal(&[&R[..], &[0]].concat()), Refusal::LeftOver { place: 34 });
+    // "Version 2 sheets add join 2 (all, shuffled) and 3 (any, shuffled)"; "refusal 3 is for versions other than 1 and 2"
+    assert_eq!((with(3, 0), with(3, 3)), (Refusal::Version { place: 3 }, Refusal::Version { place: 3 }));
+    assert_eq!((with(22, 2), with(22, 3)), (Refusal::Value { place: 22 }, Refusal::Value { place: 22 }));
+    let opens = |version: u8, join: u8| {
+        let mut sheet = O;
+        (sheet[3], sheet[22]) = (version, join);
+        Book::open(&sheet).map(|_| ())
+    };
+    for join in 0..=255 {
+        let refused = Err(Refusal::Value { place: 22 });
+        assert_eq!(opens(1, join), if join < 2 { Ok(()) } else { refused });
+        assert_eq!(opens(2, join), if join < 4 { Ok(()) } else { refused });
+    }
 }
 
 /// A session that owns its book, moved to another thread, and many threads under one book.
@@ -169,27 +182,27 @@ fn books_opened_at_once() {
 
 /// "For a table or monitor that these calls didn't make, or a monitor opened for another book, the verdict is free; the call still returns".
 #[test]
-fn words_of_no_session() {
+fn bytes_of_no_session() {
     let book = Book::open(&R).unwrap();
     let mut state = 1u64;
     for round in 0..2000u32 {
-        let mut words = Book::open(&T).unwrap().session().words();
-        for word in words.iter_mut().skip(round as usize % MONITOR_WORDS) {
+        let mut bytes = Book::open(&T).unwrap().session().bytes();
+        for byte in bytes.iter_mut().skip(round as usize % MONITOR_BYTES) {
             state = state.wrapping_mul(6364136223846793005).wrapping_add(1442695040888963407);
-            *word = state.rotate_left(round);
+            *byte = (state >> 56) as u8;
         }
-        let mut session = Session::resume(&book, words);
+        let mut session = Session::resume(&book, bytes);
         let _ = (session.verdict(), session.taken());
         for time in [0, 5, u32::MAX] {
             let _ = (session.event(round % 70, time), session.clock(time));
         }
         session.restart();
-        assert_eq!(session.words(), book.session().words());
+        assert_eq!(session.bytes(), book.session().bytes());
     }
 }
 
 #[test]
 fn versions() {
     assert_eq!(guard::library_version(), guard::LIBRARY_VERSION);
-    assert_eq!(guard::sheet_version(), 1);
+    assert_eq!(guard::sheet_version(), 2);
 }

@@ -1,13 +1,13 @@
-//! Document 01, "Traces to settle arguments", and its printed case: by log, live, and the log with each budget held to the session. What is due is written out by hand.
+//! Document 01, "Traces to settle arguments", its printed case, and the traces of change 1: by log, live, and the log with each budget held to the session. What is due is written out by hand.
 
 mod common;
 
-use common::{N, R, T};
+use common::{A, N, O, R, S, T, W};
 use guard::{run, Book, Refusal, Verdict};
 
 /// Sheet; observations ("0@5" is name 0 at time 5, "c@5" a clock reading); each answer (w whole, o open, b broken with its k, r refused with its
 /// number; the mask is 1); the five numbers.
-const TRACES: [(&[u8], &str, &str, &str); 16] = [
+const TRACES: [(&[u8], &str, &str, &str); 32] = [
     (&T, "", "", "0 0 0 0 0"),
     (&T, "0@0 0@5 1@15", "o o w", "0 0 0 3 0"),
     (&T, "0@0 0@5 1@16", "o o b3", "2 0 1 3 3"),
@@ -24,6 +24,22 @@ const TRACES: [(&[u8], &str, &str, &str); 16] = [
     (&N, "0@0 2@0 2@0 1@0", "o w w w", "0 0 0 4 0"),
     (&N, "2@0", "b1", "2 0 1 1 1"),
     (&R, "1@5 0@5 2@9 2@10", "o o w b4", "2 0 1 4 4"),
+    (&S, "0@0 1@0 0@0 9@10", "o o o w", "0 0 0 4 0"),
+    (&S, "0@0 1@0 1@0", "o o b3", "2 0 1 3 3"),
+    (&S, "0@0 0@0 9@0", "o o b3", "2 0 1 3 3"),
+    (&S, "0@0 1@0 c@99", "o o o", "1 0 1 3 0"),
+    (&S, "0@0 1@0 0@0 c@99", "o o o b4", "2 0 1 4 4"),
+    (&A, "3@0 0@50 1@60 c@70", "o o o o", "1 0 1 4 0"),
+    (&A, "3@0 1@50 c@999 1@999", "o o o o", "1 0 1 4 0"),
+    (&O, "0@0 1@0 1@0", "o o o", "1 0 1 3 0"),
+    (&O, "0@0 1@0 2@0", "o o b3", "2 0 1 3 3"),
+    (&O, "0@0 1@0 0@0 2@0", "o o o w", "0 0 0 4 0"),
+    (&O, "1@0 2@0", "o w", "0 0 0 2 0"),
+    (&O, "2@0", "b1", "2 0 1 1 1"),
+    (&O, "1@0 0@0 1@0 1@0", "o o o b4", "2 0 1 4 4"),
+    (&O, "1@0 1@0 2@0 1@0 1@0 2@0", "o o w o o w", "0 0 0 6 0"),
+    (&W, "0@0 1@0 0@0 1@0 4@0 3@0 4@0 2@0", "o o o o o o o w", "0 0 0 8 0"),
+    (&W, "0@0 1@0 0@0 1@0 4@0 3@0 2@0", "o o o o o o b7", "2 0 1 7 7"),
 ];
 
 /// A name, or None for a clock reading, and a time.

@@ -30,18 +30,9 @@ mul-result-2 c = search needs
 add-result : tie.Need-add-result
 add-result c = search needs
 
-looseness-requires : tie.Need-looseness-requires
-looseness-requires c κs = search needs
-
-mul-result-3 : tie.Need-mul-result-3
-mul-result-3 c = search needs
-
-add-result-2 : tie.Need-add-result-2
-add-result-2 c = search needs
-
 returns : tie.Need-returns
 unfolding fragmentFrom
-returns c = (rw (← c .before .before .ranges-in .ensures, ← c .before .join .ensures) (omega arith), omega arith)
+returns c = (rw (← c .before .ranges-in .ensures, ← c .join .ensures) (omega arith), omega arith)
 
 pub fragment-spec : {M : Type 1} → statement M
-fragment-spec = tie.close (tie.spec ranges-in-requires add-less cast-less join-requires cast-join mul-result mul-result-2 add-result looseness-requires mul-result-3 add-result-2 returns)
+fragment-spec = tie.close (tie.spec ranges-in-requires add-less cast-less join-requires cast-join mul-result mul-result-2 add-result returns)

@@ -1,7 +1,6 @@
 -- `fragment::cut` meets its contract: the shift divides by that power of 2. Assumes nothing.
 use mathlib.Core.Path.{ap}
 use Prim.Native.Nat.{ℕ, _-_, _*_, _/_, _^_}
-use native.Mathlib.Nat.{div-le-self}
 use borrow.Author.Needs.{needs}
 use Rattle.fragment.proofs.cut.Statement.{statement}
 use Rattle.fragment.proofs.cut.Tie as tie
@@ -22,7 +21,7 @@ shr-result : tie.Need-shr-result
 shr-result c = search needs
 
 returns : tie.Need-returns
-returns c = (ap (λ (n : ℕ). c .before .args .word / 2 ^ (56 - 8 * n)) (c .less-in .ensures), div-le-self _ _)
+returns c = ap (λ (n : ℕ). c .before .args .word / 2 ^ (56 - 8 * n)) (c .less-in .ensures)
 
 pub cut-spec : {M : Type 1} → statement M
 cut-spec = tie.close (tie.spec less-in-requires mul-result sub-result cast-result shr-result returns)

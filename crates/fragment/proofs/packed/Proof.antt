@@ -1,5 +1,4 @@
--- `fragment::packed` meets its contract: the sum is the word of the eight bytes, and they are its bytes. Assumes nothing.
-use native.Mathlib.Omega.{arith}
+-- `fragment::packed` meets its contract: the sum is the word of the eight bytes. Assumes nothing.
 use Rattle.fragment.proofs.Bytes.{packs}
 use borrow.Author.Needs.{needs}
 use Rattle.fragment.proofs.packed.Statement.{statement}
@@ -96,17 +95,12 @@ add-result-4 : tie.Need-add-result-4
 add-result-4 c = search needs
 
 returns : tie.Need-returns
-returns c = let x = c .before .before .before .before .before .before .before .before .args .t1 in
-    packs x (search needs)
-    (omega (arith, c .before .before .before .wide5 .ensures .0, c .before .before .before .wide5 .ensures .1))
-    (omega (arith, c .before .before .wide6 .ensures .0, c .before .before .wide6 .ensures .1))
-    (omega (arith, c .before .wide7 .ensures .0, c .before .wide7 .ensures .1))
-    (omega (arith, c .wide8 .ensures .0, c .wide8 .ensures .1))
-    (omega (arith, c .before .before .before .before .before .before .before .wide .ensures .0, c .before .before .before .before .before .before .before .wide .ensures .1))
-    (omega (arith, c .before .before .before .before .before .before .wide2 .ensures .0, c .before .before .before .before .before .before .wide2 .ensures .1))
-    (omega (arith, c .before .before .before .before .before .wide3 .ensures .0, c .before .before .before .before .before .wide3 .ensures .1))
-    (omega (arith, c .before .before .before .before .wide4 .ensures .0, c .before .before .before .before .wide4 .ensures .1))
-    _ (omega (arith, c .before .before .before .wide5 .ensures .0, c .before .before .wide6 .ensures .0, c .before .wide7 .ensures .0, c .wide8 .ensures .0, c .before .before .before .before .before .before .before .wide .ensures .0, c .before .before .before .before .before .before .wide2 .ensures .0, c .before .before .before .before .before .wide3 .ensures .0, c .before .before .before .before .wide4 .ensures .0))
+returns c =
+    let high = c .before .before .before .before in
+    let start = high .before .before .before .before in
+    packs (start .args .t1) _ _ _ _ _ _ _ _ (search needs)
+    (c .before .before .before .wide5 .ensures .0) (c .before .before .wide6 .ensures .0) (c .before .wide7 .ensures .0) (c .wide8 .ensures .0)
+    (high .before .before .before .wide .ensures .0) (high .before .before .wide2 .ensures .0) (high .before .wide3 .ensures .0) (high .wide4 .ensures .0)
 
 pub packed-spec : {M : Type 1} → statement M
 packed-spec = tie.close (tie.spec array-read-wide wide-requires array-read-wide-2 wide-requires-2 array-read-wide-3 wide-requires-3 array-read-wide-4 wide-requires-4 mul-high add-high mul-high-2 add-high-2 mul-high-3 add-high-3 array-read-wide-5 wide-requires-5 array-read-wide-6 wide-requires-6 array-read-wide-7 wide-requires-7 array-read-wide-8 wide-requires-8 mul-result add-result mul-result-2 add-result-2 mul-result-3 add-result-3 mul-result-4 add-result-4 returns)

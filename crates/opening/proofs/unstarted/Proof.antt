@@ -2,8 +2,8 @@
 use mathlib.Core.Path.{_≡_, refl}
 use Prim.Native.Nat.{ℕ, _≤_, _<_, _-_}
 use native.Mathlib.Omega.{arith}
-use Rattle.step.specs.declared.RuleState.{RuleState}
-use Rattle.fragment.specs.Upto.{mapN}
+use Rattle.rule_state.specs.declared.RuleState.{RuleState}
+use Rattle.words.specs.Upto.{mapN}
 use Rattle.words.specs.Words.{Clean, nothingTaken}
 use Rattle.words.proofs.Laws.{blank, zeros-hold, one-more}
 use Rattle.opening.specs.Fresh.{freshState, freshHeld}

@@ -31,7 +31,7 @@ module _ (s : List ℕ) (version outputs : ℕ) (ofQ : Bool) (before from : ℕ)
     went-on : read s (fragment today version outputs ofQ before) from ≡ next (read s (ranges today version outputs ofQ before n) at₂) (λ rs at. got (record { join = joinOf j; ranges = rs }) at)
     went-on = read-fragment today-covered s version outputs ofQ before from ∙ rw (e₁, e₂)
 
-    told : Between 0 1 j → (k : ℕ) (words₀ : List ℕ) {word fault at used : ℕ} {table₀ table : List ℕ} → word ≡ j + 256 * n
+    told : Between 0 (today .lastJoin version) j → (k : ℕ) (words₀ : List ℕ) {word fault at used : ℕ} {table₀ table : List ℕ} → word ≡ j + 256 * n
         → Told s fault at (RangesShown before used (8 * k) table₀ table) (read s (ranges today version outputs ofQ before n) at₂)
         → Told s fault at (FragmentShown before used k words₀ (set words₀ k word) table₀ table) (read s (fragment today version outputs ofQ before) from)
     told h k words₀ w (right rs e z l shown) =
@@ -61,7 +61,10 @@ returns-2 : tie.Need-returns-2
 returns-2 c = passed (stop-second _ _ _ _ _ _ ((heard-number (c .before .before .before .before .before .before .join .ensures) (c .before .before .before .before .if1 .left)) .0)) (c .before .before .before .count .ensures) (c .before .if2 .taken) (c .halt2 .ensures)
 
 fragment-word-requires : tie.Need-fragment-word-requires
-fragment-word-requires c κs = omega (arith, (heard-number (c .before .before .count .ensures) (c .if2 .left)) .2, (heard-number (c .before .before .before .before .before .join .ensures) (c .before .before .before .if1 .left)) .2)
+fragment-word-requires c κs =
+    let count = heard-number (c .before .before .count .ensures) (c .if2 .left) .2 in
+    let join = heard-number (c .before .before .before .before .before .join .ensures) (c .before .before .before .if1 .left) .2 in
+    omega (arith, count, join, today-covered .joins (c .before .before .before .before .before .before .before .args .version))
 
 mul-words : tie.Need-mul-words
 mul-words c = search needs

@@ -13,8 +13,8 @@ use borrow.Author.Needs.{needs}
 use Rattle.rules.proofs.all_waited.Statement.{statement}
 use Rattle.rules.proofs.all_waited.Tie as tie
 
-abbrev stands : (table words : List ℕ) (time k : ℕ) → Standing
-stands table words time k = waitedOf table k (getD (heldBy words .rules) k noState) time .standing
+abbrev stands : (table bytes : List ℕ) (time k : ℕ) → Standing
+stands table bytes time k = waitedOf table k (getD (heldBy bytes .rules) k noState) time .standing
 
 abbrev Inv-loop : tie.InvT-loop
 Inv-loop table m who time all₀ todo₀ all todo = Noting 0 who (stands table m time) todo all

@@ -4,6 +4,9 @@ use borrow.Author.Needs.{needs}
 use Rattle.step.proofs.moved.Statement.{statement}
 use Rattle.step.proofs.moved.Tie as tie
 
+join-in-requires : tie.Need-join-in-requires
+join-in-requires c κs = search needs
+
 least-in-requires : tie.Need-least-in-requires
 least-in-requires c κs = search needs
 
@@ -14,7 +17,9 @@ next-state-requires : tie.Need-next-state-requires
 next-state-requires c κs = search needs
 
 returns : tie.Need-returns
-returns c = c .next-state .ensures ∙ rw (c .before .before .least-in .ensures, c .before .most-in .ensures)
+returns c = c .next-state .ensures ∙ rw (c .before .before .before .join-in .ensures, c .before .before .least-in .ensures, c .before .most-in .ensures)
 
 pub moved-spec : {M : Type 1} → statement M
-moved-spec = tie.close (tie.spec least-in-requires most-in-requires next-state-requires returns)
+moved-spec =
+    tie.close
+    (tie.spec join-in-requires least-in-requires most-in-requires next-state-requires returns)

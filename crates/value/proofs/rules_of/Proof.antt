@@ -1,10 +1,10 @@
--- `value::rules_of` meets its contract. After r turns the first r states are those that the words hold. The measure is what is left of the 16. Assumes nothing.
+-- `value::rules_of` meets its contract. After r turns the first r states are those that the memory holds. The measure is what is left of the 16. Assumes nothing.
 use mathlib.Core.Path.{_≡_, refl, ap, _∙_}
 use Prim.Native.Nat.{ℕ, _%_, _≤_, _<_, _-_}
 use native.Mathlib.Omega.{arith}
 use denote.Ref.{now}
 use lib.ListN.{getD}
-use Rattle.fragment.specs.Upto.{mapN, mapN-more}
+use Rattle.words.specs.Upto.{mapN, mapN-more}
 use Rattle.words.specs.Words.{noState, heldBy}
 use Rattle.words.proofs.Laws.{blank, sixteen}
 use borrow.Author.Needs.{needs}

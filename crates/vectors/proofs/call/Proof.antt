@@ -11,14 +11,14 @@ returns c = search needs
 returns-2 : tie.Need-returns-2
 returns-2 c = search needs
 
-slice-aggregate-guard3-run : tie.Need-slice-aggregate-guard3-run
-slice-aggregate-guard3-run c = search (needs, length-take-le)
+slice-aggregate-guard4-run : tie.Need-slice-aggregate-guard4-run
+slice-aggregate-guard4-run c = search (needs, length-take-le)
 
-slice-aggregate-guard3-run-2 : tie.Need-slice-aggregate-guard3-run-2
-slice-aggregate-guard3-run-2 c = search (needs, length-take-le)
+slice-aggregate-guard4-run-2 : tie.Need-slice-aggregate-guard4-run-2
+slice-aggregate-guard4-run-2 c = search (needs, length-take-le)
 
-guard3-run-requires : tie.Need-guard3-run-requires
-guard3-run-requires c κs = search needs
+guard4-run-requires : tie.Need-guard4-run-requires
+guard4-run-requires c κs = search needs
 
 returns-3 : tie.Need-returns-3
 returns-3 c = search needs
@@ -29,7 +29,7 @@ call-spec =
     (tie.spec
     returns
     returns-2
-    slice-aggregate-guard3-run
-    slice-aggregate-guard3-run-2
-    guard3-run-requires
+    slice-aggregate-guard4-run
+    slice-aggregate-guard4-run-2
+    guard4-run-requires
     returns-3)
