@@ -1,4 +1,5 @@
-/* Holds a guard to the stored cases of crates/vectors: its run of each log, and a live session over the same records. The format of the file is at the top of reference/make.py. */
+/* Holds a guard to the stored cases of crates/vectors: its run of each log, and a live session over the same records. The format of the file is at the top of reference/make.py. And to two
+ * logs that no file has: more events on one name than sixteen bits count. */
 #include "contestants.h"
 
 #include <stdio.h>
@@ -116,6 +117,21 @@ static int agrees(const contestant *c, lent *l, const test *t)
     return memcmp(out, t->due, 12) == 0 && session(c, l, t, live) && memcmp(live, t->due, 12) == 0;
 }
 
+/* Kind 1, 0[3,v] before 2: 65,537 events and the trigger. Without an upper end, v = 0, the log is whole; with v = 65535 the 65,536th event breaks. */
+static int agrees_long(const contestant *c, lent *l, uint16_t v)
+{
+    enum { EVENTS = 65537 };
+    static uint8_t log[5 * (EVENTS + 1)];
+    const uint8_t sheet[] = {0x4C, 0x4F, 0x42, 2, 0, 0, 0, 0, 0, 0, 0, 0, 0, 1, 1, 1, 0, 2, 0, 0, 0, 0, 0, 1, 0, 3, 0, (uint8_t)v, (uint8_t)(v >> 8)};
+    uint8_t due[12];
+    log[5 * EVENTS] = 2;
+    if (v == 0)
+        twelve(due, 0, 0, EVENTS + 1, 0);
+    else
+        twelve(due, 2, 1, EVENTS - 1, EVENTS - 1);
+    return agrees(c, l, &(test){sheet, log, due, sizeof sheet, sizeof log, UINT32_MAX});
+}
+
 static uint8_t *file_bytes(const char *path)
 {
     FILE *f = fopen(path, "rb");
@@ -150,7 +166,9 @@ int main(int argc, char **argv)
             else if (!failed++)
                 fprintf(stderr, "%s: first at case %u\n", contestants[c].name, i);
         }
-        printf("%s: %u of %u cases as due\n", contestants[c].name, right, count);
+        int both = agrees_long(&contestants[c], &l, 0) && agrees_long(&contestants[c], &l, UINT16_MAX);
+        failed += !both;
+        printf("%s: %u of %u cases as due, and more than 65,536 events on one name %s\n", contestants[c].name, right, count, both ? "too" : "NOT");
     }
     return failed != 0;
 }

@@ -1,4 +1,4 @@
-/* The guard of document 01 by hand with cells and masks, with the shuffled fragments of document 02: the sheet's reader, a rule's step, observing and running a log. Words in quotes are
+/* The guard of document 01 by hand with cells and masks, with the shuffled fragments of document 02 and its ranges without an upper end: the sheet's reader, a rule's step, observing and running a log. Words in quotes are
  * document 01's. */
 #include "cells.h"
 
@@ -27,6 +27,7 @@ typedef struct reader {
     uint64_t outputs;
     uint64_t used; /* the names of the rule so far */
     uint8_t last_join;
+    bool endless; /* a range may have no upper end */
     uint8_t fault;
 } reader;
 
@@ -73,12 +74,13 @@ static bool between(reader *r, unsigned first, unsigned last, uint8_t *value)
     return pass(r, 1);
 }
 
-static bool bound(reader *r, unsigned least, uint16_t *value)
+/* A u or a v. A v may be 0, which is no upper end, where the version has that. */
+static bool bound(reader *r, unsigned least, bool or_none, uint16_t *value)
 {
     uint64_t x;
     if (!field(r, 2, &x))
         return false;
-    if (x < least)
+    if (x < least && !(or_none && x == 0))
         return refuse(r, 7);
     *value = (uint16_t)x;
     return pass(r, 2);
@@ -101,7 +103,7 @@ static bool name_field(reader *r, uint64_t wrong_way, uint8_t *name)
     return pass(r, 1);
 }
 
-/* The version says which joins there are: 0 and 1, and from version 2 on the shuffled ones. */
+/* The version says which joins there are: 0 and 1, and from version 2 on the shuffled ones; and from version 2 on a range may have no upper end. */
 static bool read_version(reader *r)
 {
     uint64_t x;
@@ -110,6 +112,7 @@ static bool read_version(reader *r)
     if (x != 1 && x != 2)
         return refuse(r, 3);
     r->last_join = x == 1 ? 1 : 3;
+    r->endless = x > 1;
     return pass(r, 2);
 }
 
@@ -153,7 +156,7 @@ static bool read_fragment(reader *r, reading *rule, unsigned f)
         return false;
     c.flags |= join & MIXED ? SHUFFLED : 0;
     for (unsigned i = 0; i < count; i++) {
-        if (!name_field(r, c.flags & OF_Q ? ~r->outputs : 0, &name) || !bound(r, 1, &u) || !bound(r, u, &v))
+        if (!name_field(r, c.flags & OF_Q ? ~r->outputs : 0, &name) || !bound(r, 1, false, &u) || !bound(r, u, r->endless, &v))
             return false;
         put_cell(rule, c, join & ANY, count, i, name, u, v);
     }
@@ -238,9 +241,11 @@ static inline bool goes_on(const cells_cell *c, cells_rule_state *st)
             return false;
         full |= st->latest;
     }
-    unsigned count = ++st->counts[c->range];
+    unsigned count = st->counts[c->range];
+    count += count < UINT16_MAX;
+    st->counts[c->range] = (uint16_t)count;
     st->lacking = (uint8_t)(count < c->u ? lacking | c->bit : lacking & ~c->bit);
-    st->full = (uint8_t)(count == c->v ? full | c->bit : full);
+    st->full = (uint8_t)(count == c->v ? full | c->bit : full); /* a count is never 0 here */
     return true;
 }
 

@@ -11,7 +11,7 @@ enum { CELLS_RULES = 16, CELLS_RANGES = 8, CELLS_NAMES = 64 };
 /* What an event on a name is to a rule that has it: an event of one range of one fragment. */
 typedef struct cells_cell {
     _Alignas(16) uint16_t u; /* sixteen bytes a cell, so that it is found by a shift */
-    uint16_t v;
+    uint16_t v;            /* 0: no upper end */
     uint8_t fragment;      /* its number in the round; "A trigger counts as a last fragment of one range [1,1]." */
     uint8_t before;        /* the number of the fragment before it: "the first fragment follows the last" */
     uint8_t range, bit;    /* the range's number in the fragment, and its bit in the two masks */
@@ -31,7 +31,7 @@ typedef struct cells_book {
 /* Of a rule. The two masks say all that an event asks of the eight recogniser states: `full` has the ranges to which one more event is an error, `lacking` those to which the next
  * fragment's first event is one. */
 typedef struct cells_rule_state {
-    uint16_t counts[CELLS_RANGES];
+    uint16_t counts[CELLS_RANGES]; /* 65,535 and more are the same, and no bound is above that */
     uint32_t end;     /* of P */
     uint8_t fragment; /* its number, or CELLS_RELEASED */
     uint8_t latest;   /* the bit of the range whose event came last */

@@ -15,6 +15,7 @@ from sheets import written
 
 ONCE, REPEATED, TIMED = 0, 1, 2
 FOREIGN = 63
+NO_UPPER_END = 0       # as v
 
 # figure and table: (operations, bits) that the papers give the direct monitor, Figure 6 of document 003 and Table 7.2 of document 000
 Configuration = namedtuple('Configuration', 'part title sheet opening round figure table', defaults=(None, None))
@@ -37,10 +38,11 @@ def timed(p, q, t):
 
 
 def sheet(*rules):
-    """The names of every Q are outputs, and all others inputs. The version is 2 where a fragment is shuffled."""
+    """The names of every Q are outputs, and all others inputs. The version is 2 where a fragment is shuffled or a range has no upper end."""
     outputs = {r.name for rule in rules for f in rule.q for r in f.ranges}
-    shuffled = any(f.join in (ALL_SHUFFLED, ANY_SHUFFLED) for rule in rules for f in rule.p + rule.q)
-    return Sheet(sum(1 << n for n in outputs), rules, 2 if shuffled else 1)
+    fragments = [f for rule in rules for f in rule.p + rule.q]
+    newer = any(f.join in (ALL_SHUFFLED, ANY_SHUFFLED) or any(r.v == NO_UPPER_END for r in f.ranges) for f in fragments)
+    return Sheet(sum(1 << n for n in outputs), rules, 2 if newer else 1)
 
 
 # ---------------------------------------------------------------------------------------------
@@ -139,6 +141,31 @@ def alternating():
 
 
 # ---------------------------------------------------------------------------------------------
+# Ranges without an upper end, at work: twenty calls of each in a round, in a row or in turn
+# ---------------------------------------------------------------------------------------------
+
+MANY = 20
+
+
+def endless(join, count, a=0):
+    return requirement(REPEATED, (Fragment(join, tuple(Range(a + i, 2, NO_UPPER_END) for i in range(count))),), a + count)
+
+
+def without_upper_end():
+    for join, count, title in ((ALL, 1, 'n[2,∞] ≪ i, repeated'), (ALL_SHUFFLED, 2, '({n1,n2}[2,∞],∧,shuffled) ≪ i, repeated')):
+        names = [*range(count)] * MANY + [count]
+        such = '16 such rules of %d endless range%s, ' % (count, 's' * (count > 1))
+        yield Configuration('endless', '1 rule: ' + title, sheet(endless(join, count)), (), names)
+        rules, round_of_all = disjoint(lambda a: endless(join, count, a), names)
+        yield Configuration('endless', such + 'disjoint names', rules, (), round_of_all)
+        yield Configuration('endless', such + 'the same names', sheet(*[endless(join, count)] * 16), (), names)
+    progress = timed((one(0),), (one(1, 2, NO_UPPER_END), one(2)), LONG)
+    yield Configuration('endless', '1 rule: n1 ⇒ n2[2,∞] < n3, t', sheet(progress), (), [0] + [1] * MANY + [2])
+    growing = timed((one(0, 1, NO_UPPER_END),), (one(1),), LONG)
+    yield Configuration('endless', '1 rule: n1[1,∞] ⇒ n2, t: n1 again and again', sheet(growing), (), (0,))
+
+
+# ---------------------------------------------------------------------------------------------
 # The configurations of the papers
 # ---------------------------------------------------------------------------------------------
 
@@ -205,7 +232,7 @@ def entry(c):
 if __name__ == '__main__':
     print('enum { FOREIGN = %d }; /* a name that no rule of a paper\'s configuration has */\n' % FOREIGN)
     print('static const configuration configurations[] = {')
-    for group in (general(), shuffled(), papers(), quiet()):
+    for group in (general(), shuffled(), without_upper_end(), papers(), quiet()):
         for configuration in group:
             print(entry(configuration))
     print('};')

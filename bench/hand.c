@@ -1,4 +1,4 @@
-/* The guard of document 01 by hand, with the shuffled fragments of document 02: the sheet's reader, the six-state recogniser, observing and running a log. Words in quotes are document
+/* The guard of document 01 by hand, with the shuffled fragments of document 02 and its ranges without an upper end: the sheet's reader, the six-state recogniser, observing and running a log. Words in quotes are document
  * 01's. */
 #include "hand.h"
 
@@ -23,6 +23,7 @@ typedef struct reader {
     uint64_t outputs;
     uint64_t used; /* the names of the rule so far */
     uint8_t last_join;
+    bool endless; /* a range may have no upper end */
     uint8_t fault;
 } reader;
 
@@ -69,12 +70,13 @@ static bool between(reader *r, unsigned first, unsigned last, uint8_t *value)
     return pass(r, 1);
 }
 
-static bool bound(reader *r, unsigned least, uint16_t *value)
+/* A u or a v. A v may be 0, which is no upper end, where the version has that. */
+static bool bound(reader *r, unsigned least, bool or_none, uint16_t *value)
 {
     uint64_t x;
     if (!field(r, 2, &x))
         return false;
-    if (x < least)
+    if (x < least && !(or_none && x == 0))
         return refuse(r, 7);
     *value = (uint16_t)x;
     return pass(r, 2);
@@ -97,7 +99,7 @@ static bool name_field(reader *r, uint64_t wrong_way, uint8_t *name)
     return pass(r, 1);
 }
 
-/* The version says which joins there are: 0 and 1, and from version 2 on the shuffled ones. */
+/* The version says which joins there are: 0 and 1, and from version 2 on the shuffled ones; and from version 2 on a range may have no upper end. */
 static bool read_version(reader *r)
 {
     uint64_t x;
@@ -106,6 +108,7 @@ static bool read_version(reader *r)
     if (x != 1 && x != 2)
         return refuse(r, 3);
     r->last_join = x == 1 ? 1 : 3;
+    r->endless = x > 1;
     return pass(r, 2);
 }
 
@@ -119,7 +122,7 @@ static bool read_fragment(reader *r, bool of_q, hand_fragment *f)
     f->names = 0;
     for (unsigned i = 0; i < f->count; i++) {
         hand_range *range = &f->ranges[i];
-        if (!name_field(r, of_q ? ~r->outputs : 0, &range->name) || !bound(r, 1, &range->u) || !bound(r, range->u, &range->v))
+        if (!name_field(r, of_q ? ~r->outputs : 0, &range->name) || !bound(r, 1, false, &range->u) || !bound(r, range->u, r->endless, &range->v))
             return false;
         f->names |= (uint64_t)1 << range->name;
     }
@@ -188,13 +191,19 @@ static bool read_sheet(reader *r, hand_book *book)
 
 /* ---- the recogniser of a range, for the ranges of one fragment */
 
+/* "Can this range take one more" */
+static inline bool has_room(unsigned count, unsigned v)
+{
+    return v == 0 || count < v;
+}
+
 /* The table's column "own". */
 static inline uint8_t after_own(uint8_t state, unsigned count, unsigned v)
 {
     switch (state) {
     case NOT_BEGUN:
     case WAITING: return COUNTING;
-    case COUNTING: return count < v ? COUNTING : ERROR;
+    case COUNTING: return has_room(count, v) ? COUNTING : ERROR;
     default: return ERROR;
     }
 }
@@ -236,7 +245,7 @@ static bool moves(const hand_fragment *f, hand_rule_state *st, unsigned name)
         uint8_t was = st->states[i];
         unsigned count = st->counts[i];
         if (range->name == name) {
-            st->counts[i] = (uint16_t)(count + 1);
+            st->counts[i] = (uint16_t)(count + (count < UINT16_MAX));
             st->states[i] = after_own(was, count, range->v);
         } else {
             st->states[i] = after_sibling(was, count, range->u, f->shuffled);

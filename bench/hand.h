@@ -11,7 +11,7 @@ enum { HAND_RULES = 16, HAND_FRAGMENTS = 16, HAND_RANGES = 8, HAND_NAMES = 64 };
 
 typedef struct hand_range {
     uint8_t name;
-    uint16_t u, v;
+    uint16_t u, v; /* v = 0: no upper end */
 } hand_range;
 
 typedef struct hand_fragment {
@@ -41,7 +41,7 @@ typedef struct hand_book {
 typedef struct hand_rule_state {
     uint8_t fragment;
     uint8_t states[HAND_RANGES];
-    uint16_t counts[HAND_RANGES]; /* 0 of a range that has not begun */
+    uint16_t counts[HAND_RANGES]; /* 0 of a range that has not begun; 65,535 and more are the same, and no bound is above that */
     uint32_t end;
 } hand_rule_state;
 

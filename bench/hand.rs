@@ -1,4 +1,4 @@
-//! The guard of document 01 by hand in Rust, with the shuffled fragments of document 02: the same tables and masks as bench/hand.c. Words in quotes are document 01's.
+//! The guard of document 01 by hand in Rust, with the shuffled fragments of document 02 and its ranges without an upper end: the same tables and masks as bench/hand.c. Words in quotes are document 01's.
 
 use std::mem::MaybeUninit;
 
@@ -48,6 +48,7 @@ impl Names {
 struct Range {
     name: u8,
     u: u16,
+    /// 0: no upper end.
     v: u16,
 }
 
@@ -110,6 +111,8 @@ struct Reader<'a> {
     /// The names of the rule so far.
     used: Names,
     last_join: u64,
+    /// A range may have no upper end.
+    endless: bool,
 }
 
 impl Reader<'_> {
@@ -137,8 +140,9 @@ impl Reader<'_> {
         Ok(value as u8)
     }
 
-    fn bound(&mut self, least: u16) -> Result<u16, Fault> {
-        let value = self.field(2, |x| if x < u64::from(least) { 7 } else { 0 })?;
+    /// A u or a v. A v may be 0, which is no upper end, where the version has that.
+    fn bound(&mut self, least: u16, or_none: bool) -> Result<u16, Fault> {
+        let value = self.field(2, |x| if x < u64::from(least) && !(or_none && x == 0) { 7 } else { 0 })?;
         Ok(value as u16)
     }
 
@@ -155,10 +159,11 @@ impl Reader<'_> {
         Ok(name)
     }
 
-    /// The version says which joins there are: 0 and 1, and from version 2 on the shuffled ones.
+    /// The version says which joins there are: 0 and 1, and from version 2 on the shuffled ones; and from version 2 on a range may have no upper end.
     fn version(&mut self) -> Result<(), Fault> {
         let version = self.field(2, |x| if x == 1 || x == 2 { 0 } else { 3 })?;
         self.last_join = if version == 1 { 1 } else { 3 };
+        self.endless = version > 1;
         Ok(())
     }
 
@@ -168,8 +173,8 @@ impl Reader<'_> {
         let mut fragment = Fragment { join, ..Fragment::EMPTY };
         for _ in 0..self.between(1, 8)? {
             let name = self.name(wrong_way)?;
-            let u = self.bound(1)?;
-            let v = self.bound(u)?;
+            let u = self.bound(1, false)?;
+            let v = self.bound(u, self.endless)?;
             fragment.push(Range { name, u, v });
         }
         Ok(fragment)
@@ -222,7 +227,7 @@ impl Reader<'_> {
 }
 
 fn read(sheet: &[u8]) -> Result<Book, Fault> {
-    Reader { sheet, at: 0, outputs: Names(0), used: Names(0), last_join: 0 }.book()
+    Reader { sheet, at: 0, outputs: Names(0), used: Names(0), last_join: 0, endless: false }.book()
 }
 
 // ---- the recogniser of a range
@@ -242,7 +247,7 @@ impl State {
     fn after_own(self, count: u16, v: u16) -> State {
         match self {
             State::NotBegun | State::Waiting => State::Counting,
-            State::Counting if count < v => State::Counting,
+            State::Counting if v == 0 || count < v => State::Counting,
             _ => State::Error,
         }
     }
@@ -276,7 +281,7 @@ impl State {
 struct RuleState {
     fragment: u8,
     states: [State; RANGES],
-    /// 0 of a range that has not begun.
+    /// 0 of a range that has not begun; 65,535 and more are the same, and no bound is above that.
     counts: [u16; RANGES],
     end: u32,
 }
@@ -307,7 +312,7 @@ impl RuleState {
         for ((range, state), count) in fragment.ranges().iter().zip(&mut self.states).zip(&mut self.counts) {
             if range.name == name {
                 *state = state.after_own(*count, range.v);
-                *count = count.wrapping_add(1);
+                *count = count.saturating_add(1);
             } else {
                 *state = state.after_sibling(*count, range.u, fragment.join);
             }

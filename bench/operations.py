@@ -13,7 +13,7 @@ from collections import namedtuple
 
 CONDITION = '(?:n?[eosp]|[abgl]e?)'
 # of several numbers at once, as eight counts: one instruction is one operation; what only puts numbers in other places is counted too
-VECTOR = ('p(?:add|sub|mull|cmpeq|cmpgt|sll|srl|sra|unpck[lh])[bwdq]{1,3}|pandn?|por|pxor|(?:andn?|x?or)p[sd]|pack[su]s(?:wb|dw)|pshuf(?:[bd]|[lh]w)|shufp[sd]|unpck[lh]p[sd]|'
+VECTOR = ('p(?:addu?s?|subu?s?|mull|cmpeq|cmpgt|sll|srl|sra|unpck[lh])[bwdq]{1,3}|pandn?|por|pxor|(?:andn?|x?or)p[sd]|pack[su]s(?:wb|dw)|pshuf(?:[bd]|[lh]w)|shufp[sd]|unpck[lh]p[sd]|'
           'pinsr[bwdq]|pextr[bwdq]|pmovmskb|pmov[sz]x[bwdq]{2}|pblendw|pblendvb')
 # an instruction that is in neither list is an error, so that nothing is counted wrongly unseen
 COMPUTES = re.compile('add|sub|adc|sbb|inc|dec|neg|i?mul|i?div|and|or|xor|not|sh[lr]d?|sa[lr]|ro[lr]|lea|cmp|test|bt[scr]?|bs[fr]|[lt]zcnt|popcnt|bswap|'

@@ -13,10 +13,10 @@ extern "C" {
 
 /* ---- versions */
 
-/* This header's library. It rises with each call that is added or changed, and with the memory that a host lends. */
-#define GUARD_LIBRARY_VERSION 4
+/* This header's library. It rises with each call that is added or changed, as opening is by the sheets that it reads, and with the memory that a host lends. From 5 on v = 0 is read. */
+#define GUARD_LIBRARY_VERSION 5
 
-/* The newest version of a sheet that this library reads; each older one is read too. */
+/* The newest version of a sheet that this library reads; each older one is read too. Version 2 has shuffled fragments and ranges without an upper end. */
 #define GUARD_SHEET_VERSION 2
 
 /* The same two numbers of the library that is linked. */
@@ -55,7 +55,7 @@ enum {
     GUARD_VALUE = 4,          /* a count, kind or join outside its values (a join is 0 or 1 in version 1, 0 to 3 in version 2) */
     GUARD_NOT_ZERO = 5,       /* a Q count, trigger or t that is not 0 where 0 is due */
     GUARD_NAME = 6,           /* a trigger or a range's name above 63 */
-    GUARD_BOUNDS = 7,         /* u is 0, or v < u */
+    GUARD_BOUNDS = 7,         /* u is 0, or v < u (in version 2 a v of 0 is no upper end) */
     GUARD_NAME_TWICE = 8,     /* a range's name is already in the rule */
     GUARD_DIRECTION = 9,      /* a trigger that is an output, or a name of Q that is an input */
     GUARD_LEFT_OVER = 10,     /* bytes after the last rule */
@@ -76,7 +76,7 @@ static inline const char *guard_refusal_text(uint32_t number)
         "a count, kind or join is outside its values (a join is 0 or 1 in version 1, 0 to 3 in version 2)",
         "a Q count, trigger or t is not 0 where 0 is due",
         "a trigger or a range's name is above 63",
-        "a range's u is 0, or its v is below u",
+        "a range's u is 0, or its v is below u (in version 2 a v of 0 is no upper end)",
         "a range's name is already in the rule",
         "a trigger is an output, or a name of Q is an input",
         "bytes are left over after the last rule",

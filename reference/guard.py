@@ -1,4 +1,4 @@
-"""The guard of document 01, with change 1 of document 02, written a second time from its definitions.
+"""The guard of document 01, with changes 1 and 2 of document 02, written a second time from its definitions.
 
 Nothing here knows of recogniser states, of a move table or of a translated book. A sheet is read
 field by field; a rule is judged by cutting the list of its own events into rounds, fragments and
@@ -17,6 +17,7 @@ CLOCK = 0xFF
 MOST = 4294967295
 ALL, ANY, ALL_SHUFFLED, ANY_SHUFFLED = JOINS = range(4)
 LAST_JOIN = {1: ANY, 2: ANY_SHUFFLED}                     # the versions of a sheet, and the last join of each
+NO_UPPER_END = {1: (), 2: (0,)}                           # the v of each version that is no bound: u or more occurrences
 SOME_WILL_DO, IN_ANY_MIX = (ANY, ANY_SHUFFLED), (ALL_SHUFFLED, ANY_SHUFFLED)
 
 Range = namedtuple('Range', 'name u v')
@@ -75,7 +76,7 @@ def is_output(outputs, name):
     return outputs >> name & 1 == 1
 
 
-def read_range(f, outputs, used, in_q):
+def read_range(f, version, outputs, used, in_q):
     name = f.number(1)
     f.refuse(6, name > 63)
     f.refuse(8, name in used)
@@ -84,14 +85,14 @@ def read_range(f, outputs, used, in_q):
     u = f.number(2)
     f.refuse(7, u == 0)
     v = f.number(2)
-    f.refuse(7, v < u)
+    f.refuse(7, v < u and v not in NO_UPPER_END[version])
     return Range(name, u, v)
 
 
 def read_fragment(f, version, outputs, used, in_q):
     join = f.within(ALL, LAST_JOIN[version])
     count = f.within(1, 8)
-    return Fragment(join, tuple(read_range(f, outputs, used, in_q) for _ in range(count)))
+    return Fragment(join, tuple(read_range(f, version, outputs, used, in_q) for _ in range(count)))
 
 
 def read_trigger(f, outputs):
@@ -145,14 +146,20 @@ def read_sheet(data):
 #           number of them. So what can be cut out of a continuation from one place in it on can be
 #           cut out of another from any of its places on: all places after at least one event of
 #           the continuation are alike, and are the one place BEYOND. From there everything can be
-#           had: any block, fragment, ordering or trigger goes from BEYOND to BEYOND. A shuffled
-#           fragment that has come to n with no total above v goes on to BEYOND if some range can
-#           take one more: that one and whatever lacks are had there.
+#           had: any block, fragment, ordering or trigger goes from BEYOND to BEYOND. A block that
+#           has come to n goes on to BEYOND if its range can take one more, which one without an
+#           upper end always can. A shuffled fragment that has come to n with no total above v goes
+#           on to BEYOND if some range can take one more: that one and whatever lacks are had there.
 #   length  A round that has reached BEYOND is completed there, and nothing need follow it.
 #
 # So a cut has n + 2 places to go through, whatever the bounds are. A trace is a match if a cut into
 # rounds reaches n; it can become one if a cut reaches n or BEYOND.
 # ---------------------------------------------------------------------------------------------
+
+def at_most(r, count):
+    """So many occurrences are not too many for the range; none are where it has no upper end, which is a v of 0."""
+    return r.v == 0 or count <= r.v
+
 
 def names_of(rule):
     out = {r.name for fragment in rule.p + rule.q for r in fragment.ranges}
@@ -176,15 +183,15 @@ class Cut:
         return self.times[place - 1]
 
     def block_ends(self, r, start):
-        """Where a block of the range r from `start` on can end: r.name, u to v times in a row."""
+        """Where a block of the range r from `start` on can end: r.name, u to v times in a row, or u times and more."""
         if start == self.beyond:
             return [self.beyond]
         ends, k = [], 0
-        while k < r.v and start + k < self.n and self.names[start + k] == r.name:
+        while at_most(r, k + 1) and start + k < self.n and self.names[start + k] == r.name:
             k += 1
             if k >= r.u:
                 ends.append(start + k)
-        if start + k == self.n and k < r.v:
+        if start + k == self.n and at_most(r, k + 1):
             ends.append(self.beyond)
         return ends
 
@@ -205,20 +212,21 @@ class Cut:
         return ends
 
     def shuffled_ends(self, fragment, start):
-        """Where a shuffled fragment can end: the total of each name, or of each name used, lies between u and v."""
+        """Where a shuffled fragment can end: the total of each name, or of each name used, lies between u and v, or is u or more."""
         if start == self.beyond:
             return {self.beyond}
-        ends = set()
-        for place in range(start, self.n + 1):
-            events = self.names[start:place]
-            totals = [(r, events.count(r.name)) for r in fragment.ranges]
-            if sum(total for _, total in totals) < len(events) or any(total > r.v for r, total in totals):
+        ranges = {r.name: r for r in fragment.ranges}
+        ends, totals = set(), dict.fromkeys(ranges, 0)
+        for place in range(start, self.n):
+            name = self.names[place]
+            if name not in ranges or not at_most(ranges[name], totals[name] + 1):
                 return ends             # an event that is not the fragment's, or one too many
-            used = [(r, total) for r, total in totals if total > 0]
-            needed = used if fragment.join in SOME_WILL_DO else totals
-            if used and all(total >= r.u for r, total in needed):
-                ends.add(place)
-        if any(total < r.v for r, total in totals):
+            totals[name] += 1
+            used = [r for r in fragment.ranges if totals[r.name] > 0]
+            needed = used if fragment.join in SOME_WILL_DO else fragment.ranges
+            if all(totals[r.name] >= r.u for r in needed):
+                ends.add(place + 1)
+        if any(at_most(r, totals[r.name] + 1) for r in fragment.ranges):
             ends.add(self.beyond)
         return ends
 

@@ -22,13 +22,18 @@ def few(count):
     return min(count, 20)
 
 
+def most_of(r):
+    """A range's v, or where it has no upper end some count that is well above u."""
+    return r.v or r.u + 6
+
+
 def fragment_blocks(dice, number, fragment):
     ranges = dice.shuffled(fragment.ranges)
     if fragment.join in SOME_WILL_DO:
         ranges = ranges[:dice.between(1, len(ranges))]
     blocks = []
     for r in ranges:
-        most = min(r.v, r.u + 3)
+        most = min(most_of(r), r.u + 3)
         blocks.append([number, r, few(dice.pick([r.u, r.u, most, dice.between(r.u, most)]))])
     return blocks
 
@@ -44,7 +49,7 @@ def changed_round(dice, rule, blocks, change):
     i = dice.below(len(blocks))
     number, r, count = blocks[i]
     if change == 'too many':
-        blocks[i][2] = few(r.v + 1)
+        blocks[i][2] = few(most_of(r) + 1)
     elif change == 'too few':
         blocks[i][2] = few(r.u - 1)
     elif change == 'reopened':
@@ -155,14 +160,14 @@ def with_one_more(dice, observations, name):
 
 
 def full_p(dice, rule):
-    """Blocks of a P whose last block is at v, or all blocks of its last fragment where that is shuffled. Nothing can be added to it, unless a
-    range of the last fragment is left out, or in a shuffled one is at u, which is so now and then."""
+    """Blocks of a P whose last block is at v, or all blocks of its last fragment where that is shuffled. Nothing can be added to it, unless a range of the last
+    fragment is left out, or in a shuffled one is at u, which is so now and then, or the last block, or in a shuffled fragment any, is of a range without an upper end."""
     last = len(rule.p) - 1
     ranges, shuffled = dice.shuffled(rule.p[last].ranges), rule.p[last].join in IN_ANY_MIX
     if rule.p[last].join in SOME_WILL_DO and len(ranges) > 1 and dice.chance(0.4):
         ranges.pop()
-    blocks = [b for b in round_blocks(dice, rule) if b[0] < last] + [[last, r, few(r.v if shuffled else r.u)] for r in ranges]
-    blocks[-1][2] = few(ranges[-1].u if shuffled and dice.chance(0.3) else ranges[-1].v)
+    blocks = [b for b in round_blocks(dice, rule) if b[0] < last] + [[last, r, few(most_of(r) if shuffled else r.u)] for r in ranges]
+    blocks[-1][2] = few(ranges[-1].u if shuffled and dice.chance(0.3) else most_of(ranges[-1]))
     return blocks
 
 

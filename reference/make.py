@@ -19,24 +19,26 @@ import sys
 from collections import Counter, namedtuple
 
 import guard
-from guard import (ALL, ALL_SHUFFLED, ANY, ANY_SHUFFLED, BROKEN, CLOCK, IN_ANY_MIX, MOST, OPEN, REFUSED, Fragment, Range, Refused,
-                   Rule, Sheet)
+import words
+from endless import SCENARIOS, endless_cases
+from guard import (ALL, ALL_SHUFFLED, ANY, ANY_SHUFFLED, BROKEN, CLOCK, IN_ANY_MIX, JOINS, MOST, OPEN, REFUSED, Fragment, Range,
+                   Refused, Rule, Sheet)
 from logs import deadline_log, log_bytes, some_log, with_refusal
 from sheets import (FAULTS, VERSION_FAULTS, Dice, faulty, largest_sheet, prolonged, some_sheet, truncated, twice_faulty,
                     written)
 
 SEED = 20161114
-Case = namedtuple('Case', 'family sheet log budget field', defaults=('',))     # field: the one that a faulty sheet is refused for
+Case = namedtuple('Case', 'family sheet log budget about', defaults=('',))     # about: the field that a faulty sheet is refused for, or what an endless range meets
 
 ANSWERS = ['whole', 'open', 'broken', 'refused']
 CAUSES = ['', 'an own event', 'a foreign event', 'the clock']
 REFUSALS = list(range(1, 13)) + [14]
-SHOWN = ['traces of document 01', 'traces of change 1']
+SHOWN = ['traces of document 01', 'traces of change 1', 'traces of change 2']
 AT_LEAST = 100
 
 
 # ---------------------------------------------------------------------------------------------
-# The traces of document 01 and of change 1, with the five numbers that their words give
+# The traces of document 01 and of changes 1 and 2, with the five numbers that their words give
 # ---------------------------------------------------------------------------------------------
 
 def single(name, u, v):
@@ -52,15 +54,18 @@ R = Sheet(0, (Rule(1, (pair(ALL),), (), 2, 0),))
 N = Sheet(0, (Rule(0, (pair(ANY),), (), 2, 0),))
 
 
-def answered(*p):
-    """P, then 9[1,2] within 10, in a sheet of version 2."""
-    return Sheet(512, (Rule(2, p, (single(9, 1, 2),), 0, 10),), 2)
+def answered(*p, most=2):
+    """P, then 9[1,most] within 10, in a sheet of version 2."""
+    return Sheet(512, (Rule(2, p, (single(9, 1, most),), 0, 10),), 2)
 
 
 S = answered(pair(ALL_SHUFFLED, (1, 2), (1, 1)))
 A = answered(single(3, 1, 1), pair(ANY, (1, 1), (2, 2)))
 O = Sheet(0, (Rule(1, (pair(ANY_SHUFFLED, (2, 3), (1, 2)),), (), 2, 0),), 2)
 W = Sheet(0, (Rule(1, (pair(ALL_SHUFFLED, (1, 2), (2, 2)), Fragment(ANY_SHUFFLED, (Range(3, 1, 1), Range(4, 2, 2)))), (), 2, 0),), 2)
+E = answered(single(0, 2, 0))
+F, G = (answered(pair(join, (1, 0), (1, 1)), most=0) for join in (ALL, ALL_SHUFFLED))
+H = Sheet(0, (Rule(1, (single(0, 2, 0), Fragment(ANY_SHUFFLED, (Range(1, 1, 0), Range(3, 2, 2)))), (), 2, 0),), 2)
 
 TRACES = [
     (T, '', '0 0 0 0 0'),
@@ -97,6 +102,26 @@ SHUFFLED_TRACES = [
     (W, '0@0 1@0 0@0 1@0 4@0 3@0 4@0 2@0', '0 0 0 8 0'),
     (W, '0@0 1@0 0@0 1@0 4@0 3@0 2@0', '2 0 1 7 7'),
 ]
+ENDLESS_TRACES = [
+    (E, '0@0 9@0', '2 0 1 2 2'),
+    (E, '0@0 0@0 9@10', '0 0 0 3 0'),
+    (E, '0@0 0@0 0@0 0@0 0@0 9@10', '0 0 0 6 0'),
+    (E, '0@0 0@0 0@0 0@0 c@99', '1 0 1 5 0'),
+    (E, '0@0 0@0 0@50 9@60', '0 0 0 4 0'),
+    (E, '0@0 0@0 0@50 9@61', '2 0 1 4 4'),
+    (E, '0@0 0@0 9@0 9@0 9@0', '2 0 1 5 5'),
+    (H, '0@0 0@0 1@0 0@0', '2 0 1 4 4'),
+    (F, '0@0 0@0 1@0 0@0', '2 0 1 4 4'),
+    (F, '0@0 0@0 1@0 c@11', '2 0 1 4 4'),
+    (F, '1@0 0@0 0@0 c@99', '1 0 1 4 0'),
+    (G, '0@0 0@0 1@0 0@0 9@10', '0 0 0 5 0'),
+    (G, '0@0 0@0 1@0 c@99', '1 0 1 4 0'),
+    (H, '0@0 0@0 1@0 3@0 1@0 3@0 1@0 2@0', '0 0 0 8 0'),
+    (H, '0@0 0@0 1@0 3@0 1@0 2@0', '2 0 1 6 6'),
+    (F, '1@0 0@0 9@1 9@2 9@10 c@99', '0 0 0 6 0'),
+    (F, '1@0 0@0 9@1 9@2 9@10 c@99 9@99', '2 0 1 7 7'),
+    (F, '1@0 0@0 9@1 9@2 9@10 c@99 0@99', '1 0 1 7 0'),
+]
 PRINTED_BOOK = bytes.fromhex('4C4F42 0100 0000000000000000 01 01 01 00 02 00000000 00 02 00 0100 0100 01 0100 0100')
 PRINTED_TRACE, PRINTED_LINE = '1@5 0@5 2@9 2@10', '2 0 1 4 4'
 
@@ -120,41 +145,7 @@ def document_cases():
         return [(written(sheet)[0], text, due) for sheet, text, due in traces]
     yield from settled_cases(SHOWN[0], rows(TRACES) + [(PRINTED_BOOK, PRINTED_TRACE, PRINTED_LINE)])
     yield from settled_cases(SHOWN[1], rows(SHUFFLED_TRACES))
-
-
-# ---------------------------------------------------------------------------------------------
-# What shuffled means, by document 000's Definitions 8 and 9: one sequence for each range that
-# appears, interleaved in any way. guard.py goes by document 02's totals instead; on every short
-# word the two are held to be one.
-# ---------------------------------------------------------------------------------------------
-
-def interleavings(sequences):
-    """Every word that has the sequences' events, each sequence in its own order."""
-    if not any(sequences):
-        return {()}
-    return {(s[0],) + word for i, s in enumerate(sequences) if s
-            for word in interleavings(sequences[:i] + (s[1:],) + sequences[i + 1:])}
-
-
-def shuffles(fragment):
-    """The words that match a shuffled fragment."""
-    least = 1 if fragment.join == ANY_SHUFFLED else len(fragment.ranges)
-    for size in range(least, len(fragment.ranges) + 1):
-        for appearing in itertools.combinations(fragment.ranges, size):
-            for counts in itertools.product(*(range(r.u, r.v + 1) for r in appearing)):
-                yield from interleavings(tuple((r.name,) * k for r, k in zip(appearing, counts)))
-
-
-def hold_shuffled():
-    bounds = [(1, 1), (1, 2), (2, 2), (2, 3)]
-    for join, first, second in itertools.product(IN_ANY_MIX, bounds, bounds):
-        fragment = pair(join, first, second)
-        due = set(shuffles(fragment))
-        for length in range(8):
-            for word in itertools.product((0, 1), repeat=length):
-                cut = guard.Cut(None, [guard.Event(name, 0) for name in word], 0)
-                assert (length in cut.fragment_ends(fragment, 0)) == (word in due), (fragment, word)
-                assert (cut.beyond in cut.fragment_ends(fragment, 0)) == any(w[:length] == word and len(w) > length for w in due), (fragment, word)
+    yield from settled_cases(SHOWN[2], rows(ENDLESS_TRACES))
 
 
 # ---------------------------------------------------------------------------------------------
@@ -194,6 +185,19 @@ def short_shuffled_cases():
             yield Case(family, book, log_bytes(log), MOST)
     for join in IN_ANY_MIX:
         book = written(answered(pair(join, (1, 2), (1, 1))))[0]
+        for log in short_logs((0, 1, 9, CLOCK), (0, 11), 3):
+            yield Case(family, book, log_bytes(log), MOST)
+
+
+def short_endless_cases():
+    """The same of rules with a range that has no upper end: 0[1,0] and 1[1,1], by every join, before 2, and answered by 9[1,0]."""
+    family = 'every short log, no upper end'
+    for kind, join in itertools.product((0, 1), JOINS):
+        book = written(Sheet(0, (Rule(kind, (pair(join, (1, 0), (1, 1)),), (), 2, 0),), 2))[0]
+        for log in short_logs((0, 1, 2), (0,), 4):
+            yield Case(family, book, log_bytes(log), MOST)
+    for join in (ANY, ALL_SHUFFLED):
+        book = written(answered(pair(join, (1, 0), (1, 1)), most=0))[0]
         for log in short_logs((0, 1, 9, CLOCK), (0, 11), 3):
             yield Case(family, book, log_bytes(log), MOST)
 
@@ -299,15 +303,15 @@ def faulty_case(dice, version, make):
         made = make(sheet)
         return None if made is None else (sheet, made)
     sheet, (book, refusal, place) = until_found(attempt)
-    field = {f.at: f.what for f in written(sheet)[1]}.get(place, '')
-    case = Case('faulty sheets', book, attached_log(dice, sheet), some_budget(dice, 2), field)
+    about = {f.at: f.what for f in written(sheet)[1]}.get(place, '')
+    case = Case('faulty sheets', book, attached_log(dice, sheet), some_budget(dice, 2), about)
     result = guard.run(case.sheet, case.log, case.budget)
     assert result == (REFUSED, refusal, 0, 0, place), (result, refusal, place)
     return case
 
 
 def fault_cases(dice, each, version=1):
-    for fault in FAULTS + VERSION_FAULTS:
+    for fault in FAULTS + VERSION_FAULTS[version]:
         for _ in range(each if fault in FAULTS else AT_LEAST):
             yield faulty_case(dice, version, lambda sheet: faulty(dice, sheet, fault))
     for _ in range(3 * each):
@@ -319,8 +323,8 @@ def fault_cases(dice, each, version=1):
 
 
 def every_truncation():
-    """Each beginning of a sheet with all kinds of rule, and of one with all joins."""
-    for sheet in (Sheet(2, (T.rules[0], R.rules[0], N.rules[0])), Sheet(512, A.rules + S.rules + O.rules, 2)):
+    """Each beginning of a sheet with all kinds of rule, of one with all joins, and of one with ranges that have no upper end."""
+    for sheet in (Sheet(2, (T.rules[0], R.rules[0], N.rules[0])), Sheet(512, A.rules + S.rules + O.rules, 2), Sheet(512, E.rules + G.rules + H.rules, 2)):
         book = written(sheet)[0]
         for length in range(len(book) + 1):
             yield Case('every truncation', book[:length], b'', MOST)
@@ -351,7 +355,8 @@ def edge_cases():
                 yield Case(family, book, log, MOST)
     sixteen = Sheet(2, (T.rules + R._replace(outputs=2).rules + N.rules) * 5 + T.rules)
     mixed = Sheet(512, (S.rules + O.rules + A.rules) * 5 + O.rules, 2)
-    for sheet, text in itertools.product((sixteen, mixed), SIXTEEN_LOGS):
+    endless = Sheet(512, (E.rules + G.rules + H.rules) * 5 + F.rules, 2)
+    for sheet, text in itertools.product((sixteen, mixed, endless), SIXTEEN_LOGS):
         yield Case(family, written(sheet)[0], log_bytes(observations(text)), MOST)
     book = written(T)[0]
     for log in (b'', b'\0', b'\xff' * 4, b'\xff' * 5, b'\xff' * 10, b'\x40' * 5, b'\0' * 5):
@@ -386,6 +391,9 @@ def all_cases():
     yield from deadline_cases(dice, 2000, 2)
     yield from growth_cases(dice, 600)
     yield from log_cases(dice, 2000, 2)
+    yield from short_endless_cases()
+    for book, log, about in endless_cases(dice, 15):
+        yield Case('ranges without an upper end', book, log, MOST, about)
 
 
 # ---------------------------------------------------------------------------------------------
@@ -409,12 +417,16 @@ def case_bytes(case, result, why):
                      struct.pack('<I', case.budget), guard.answer_bytes(result), bytes([why])))
 
 
-# What change 1 brings, by a word for each, the last of them refusals. 'join 2 is not 0': with join 0 in the place of 2 the case is due something else.
+# What changes 1 and 2 bring, by a word for each. 'join 2 is not 0': with join 0 in the place of 2 the case is due something else; 'no upper end is not u': with v = u in the place of v = 0.
 SWAPS = {'join 2 is not 0': (ALL_SHUFFLED, ALL), 'join 3 is not 1': (ANY_SHUFFLED, ANY),
          'join 2 is not 3': (ALL_SHUFFLED, ANY_SHUFFLED), 'join 3 is not 2': (ANY_SHUFFLED, ALL_SHUFFLED)}
+PARTS = [(0, 'P'), (1, 'P'), (2, 'P'), (2, 'Q')]
 FEATURES = (['version 2 ' + word for word in ANSWERS] + ['version 2 refusal %d' % r for r in REFUSALS if r != 3] + ['version 2 broken by ' + word for word in CAUSES[1:]]
             + ['join %d %s' % row for row in itertools.product(IN_ANY_MIX, ANSWERS[:3])] + list(SWAPS)
-            + ['shuffled P can grow', 'shuffled P cannot grow', 'version 3', 'join 2 in version 1', 'join 3 in version 1', 'join 4 in version 2', 'v = 0 in version 2'])
+            + ['shuffled P can grow', 'shuffled P cannot grow', 'version 3', 'join 2 in version 1', 'join 3 in version 1', 'join 4 in version 2']
+            + ['no upper end: kind %d, %s, join %d' % (kind, part, join) for (kind, part), join in itertools.product(PARTS, JOINS)]
+            + ['no upper end ' + word for word in ANSWERS[:3]] + ['no upper end is not u'] + ['no upper end: ' + word for word in SCENARIOS]
+            + ['v = 0 in version 1', 'u = 0 and v = 0 in version 1', 'u = 0 and v = 0 in version 2', '0 < v < u in version 2'])
 
 
 def with_join(sheet, old, new):
@@ -424,15 +436,37 @@ def with_join(sheet, old, new):
     return sheet._replace(rules=tuple(rule._replace(p=ordering(rule.p), q=ordering(rule.q)) for rule in sheet.rules))
 
 
+def with_upper_ends(sheet):
+    """The sheet with v = u wherever v is 0."""
+    def ordering(fragments):
+        return tuple(f._replace(ranges=tuple(r._replace(v=r.v or r.u) for r in f.ranges)) for f in fragments)
+    return sheet._replace(rules=tuple(rule._replace(p=ordering(rule.p), q=ordering(rule.q)) for rule in sheet.rules))
+
+
 def refused_value(case, refusal, version):
-    """What the refusal of a faulty sheet is about, as far as change 1 has to do with it."""
-    value = case.sheet[refusal.place]
-    if refusal.number == 3 and case.sheet[3:5] == b'\3\0':
+    """What the refusal of a faulty sheet is about, as far as changes 1 and 2 have to do with it."""
+    there = case.sheet[refusal.place:]
+    if refusal.number == 3 and there[:2] == b'\3\0':
         yield 'version 3'
-    if refusal.number == 4 and case.field == 'join':
-        yield 'join %d in version %d' % (value, version)
-    if refusal.number == 7 and case.field == 'v' and case.sheet[refusal.place:][:2] == b'\0\0':
-        yield 'v = 0 in version %d' % version
+    if refusal.number == 4 and case.about == 'join':
+        yield 'join %d in version %d' % (there[0], version)
+    if refusal.number == 7 and case.about == 'u' and there[:4] == b'\0\0\0\0':
+        yield 'u = 0 and v = 0 in version %d' % version
+    if refusal.number == 7 and case.about == 'v':
+        yield ('v = 0' if there[:2] == b'\0\0' else '0 < v < u') + ' in version %d' % version
+
+
+def endless_features(case, sheet, result):
+    """Where the sheet has ranges without an upper end, and what comes of it."""
+    places = {(rule.kind, part, fragment.join) for rule in sheet.rules for part, ordering in (('P', rule.p), ('Q', rule.q))
+              for fragment in ordering if any(r.v == 0 for r in fragment.ranges)}
+    yield from ('no upper end: kind %d, %s, join %d' % place for place in places)
+    if places and result.answer != REFUSED:
+        yield 'no upper end ' + ANSWERS[result.answer]
+        if guard.run(written(with_upper_ends(sheet))[0], case.log, case.budget) != result:
+            yield 'no upper end is not u'
+    if case.family == 'ranges without an upper end':
+        yield 'no upper end: ' + case.about
 
 
 def features(case, result, why):
@@ -457,6 +491,7 @@ def features(case, result, why):
         for word, (old, new) in SWAPS.items():
             if old in joins and guard.run(written(with_join(sheet, old, new))[0], case.log, case.budget) != result:
                 yield word
+    yield from endless_features(case, sheet, result)
 
 
 class Tally:
@@ -494,7 +529,7 @@ class Tally:
 
 
 def write(folder):
-    hold_shuffled()
+    words.hold()
     body, shown, tally = [], [], Tally()
     for case in all_cases():
         result = guard.run(case.sheet, case.log, case.budget)

@@ -83,14 +83,14 @@ def written(sheet):
 # Random rules
 # ---------------------------------------------------------------------------------------------
 
-def some_range(dice, name):
-    """Small bounds as a rule; now and then a large v, and seldom a large u."""
+def some_range(dice, name, version):
+    """Small bounds as a rule; now and then a large v, and seldom a large u. From version 2 on one range in four has no upper end."""
     u = dice.pick([1, 1, 1, 2, 2, 3])
     v = u + dice.pick([0, 0, 0, 1, 1, 2])
     if dice.chance(0.03):
         v = dice.pick([255, 256, 1000, 65535])
         u = dice.pick([u, u, v])
-    return Range(name, u, v)
+    return Range(name, u, 0 if version > 1 and dice.chance(0.25) else v)
 
 
 RANGE_COUNTS = {1: [1, 1, 1, 2, 2, 3], 2: [1, 2, 2, 3, 3, 4]}    # by version: a mix needs two ranges
@@ -98,7 +98,7 @@ RANGE_COUNTS = {1: [1, 1, 1, 2, 2, 3], 2: [1, 2, 2, 3, 3, 4]}    # by version: a
 
 def some_fragment(dice, names, version):
     count = min(len(names), dice.pick(RANGE_COUNTS[version]))
-    return Fragment(dice.below(LAST_JOIN[version] + 1), tuple(some_range(dice, names.pop()) for _ in range(count)))
+    return Fragment(dice.below(LAST_JOIN[version] + 1), tuple(some_range(dice, names.pop(), version) for _ in range(count)))
 
 
 def some_ordering(dice, names, version):
@@ -122,10 +122,12 @@ def some_rule(dice, pool, outputs, kind, version=1):
     return Rule(kind, some_ordering(dice, dice.shuffled(inputs + plugin), version), (), trigger, 0)
 
 
-def other_bounds(dice, r):
-    """Bounds that differ by one at most, where they can."""
+def other_bounds(dice, r, version):
+    """Bounds that differ by one at most, where they can; from version 2 on now and then no upper end where there was one, and the other way round."""
     u = min(max(1, r.u + dice.pick([-1, 0, 0, 1])), 65535)
     v = min(max(u, r.v + dice.pick([-1, 0, 1])), 65535)
+    if version > 1 and (r.v == 0) != dice.chance(0.2):
+        v = 0
     return Range(r.name, u, v)
 
 
@@ -138,7 +140,7 @@ def other_join(dice, join, version):
 def variant(dice, rule, version=1):
     """A rule on the same names in the same places, so that one log goes some way through both."""
     def ordering(fragments):
-        return tuple(Fragment(other_join(dice, f.join, version), tuple(other_bounds(dice, r) for r in f.ranges))
+        return tuple(Fragment(other_join(dice, f.join, version), tuple(other_bounds(dice, r, version) for r in f.ranges))
                      for f in fragments)
     kind = rule.kind if rule.kind == 2 or dice.chance(0.5) else 1 - rule.kind
     t = dice.pick([rule.t, 0, 1, 5, 10]) if kind == 2 else 0
@@ -178,10 +180,10 @@ def some_sheet(dice, shared, version=1):
 
 
 def largest_sheet(version=1):
-    """Sixteen rules of kind 2, each with sixteen fragments and all 64 names: 5,774 bytes."""
+    """Sixteen rules of kind 2, each with sixteen fragments and all 64 names: 5,774 bytes. In version 2 every join and every fourth range without an upper end."""
     def ordering(first):
-        joins = LAST_JOIN[version] + 1
-        return tuple(Fragment(i % joins, tuple(Range(first + 4 * i + j, 1, 1 + j) for j in range(4))) for i in range(8))
+        joins, tops = LAST_JOIN[version] + 1, (1, 2, 3, 4 if version == 1 else 0)
+        return tuple(Fragment(i % joins, tuple(Range(first + 4 * i + j, 1, v) for j, v in enumerate(tops))) for i in range(8))
     rule = Rule(2, ordering(0), ordering(32), 0, 7)
     return Sheet((1 << 64) - (1 << 32), (rule,) * 16, version)
 
@@ -227,7 +229,10 @@ def other_mark(dice, sheet, field):
 
 
 def too_small(dice, sheet, field):
-    return dice.pick([0, field.low - 1, dice.below(field.low)])
+    """A v below u: in version 1 also 0, which from version 2 on is no bound."""
+    if sheet.version == 1:
+        return dice.pick([0, field.low - 1, dice.below(field.low)])
+    return dice.pick([1, field.low - 1]) if field.low > 1 else None
 
 
 def in_rule(dice, sheet, field):
@@ -245,8 +250,9 @@ def an_input(dice, sheet, field):
     return dice.pick(names) if names else None
 
 
-# refusal, kind of field, a value that the refusal names (None where the sheet has no such value)
-FAULTS = [
+# refusal, kind of field, a value that the refusal names (None where the sheet has no such value), and how many bytes it has where that is not the field's own
+Fault = namedtuple('Fault', 'refusal what value size', defaults=(None,))
+FAULTS = [Fault(*row) for row in (
     (2, 'mark', other_mark),
     (3, 'version', one_of(0, 4, 256, 257, 258, 513, 65535)),
     (4, 'rule count', outside(1, 16)),
@@ -267,28 +273,23 @@ FAULTS = [
     (8, 'Q name', in_rule),
     (9, 'trigger', an_output),
     (9, 'Q name', an_input),
-]
-# those whose number or whose values are the version's
-VERSION_FAULTS = [
-    (3, 'version', one_of(3)),
-    (4, 'join', join_past(1)),
-    (4, 'join', join_past(2)),
-    (7, 'v', one_of(0)),
-]
+)]
+# those whose number or whose values are the version's; and a u of 0 before a v of 0, which is never looked at
+BOTH_VERSIONS = [Fault(3, 'version', one_of(3)), Fault(4, 'join', join_past(1)), Fault(4, 'join', join_past(2)), Fault(7, 'u', one_of(0), 4)]
+VERSION_FAULTS = {1: BOTH_VERSIONS + [Fault(7, 'v', one_of(0))], 2: BOTH_VERSIONS + [Fault(7, 'v', too_small)]}
 
 
 def faulty(dice, sheet, fault):
     """The sheet's bytes with the fault in one field, and the refusal and place due; None if it has no such field."""
-    refusal, what, value = fault
     data, fields = written(sheet)
-    fields = [f for f in fields if f.what == what]
+    fields = [f for f in fields if f.what == fault.what]
     if not fields:
         return None
     field = dice.pick(fields)
-    new = value(dice, sheet, field)
+    new, size = fault.value(dice, sheet, field), fault.size or field.size
     if new is None:
         return None
-    return data[:field.at] + new.to_bytes(field.size, 'little') + data[field.at + field.size:], refusal, field.at
+    return data[:field.at] + new.to_bytes(size, 'little') + data[field.at + size:], fault.refusal, field.at
 
 
 def twice_faulty(dice, sheet, first, second):

@@ -21,6 +21,7 @@ KINDS = {'once': 0, 'each': 1, 'within': 2}
 SIGNS = {'once': '<<', 'each': '<<', 'within': '=>'}
 JOINS = {'all': 0, 'any': 1}
 SHUFFLED = 2                    # added to a join; from version 2 on
+NO_UPPER_END = 0                # as v; from version 2 on
 VERSIONS = (1, 2)               # of sheets
 ANSWERS = {'whole': 0, 'open': 1, 'broken': 2}
 MOST_TIME = 4294967295
@@ -161,9 +162,9 @@ class Component:
         return bytes([join, len(ranges)]) + b''.join(self.range(r.strip(), used, in_q) for r in ranges)
 
     def range(self, text, used, in_q):
-        """name, name+ or name[u,v]"""
-        parts = re.fullmatch('(' + NAME + r')(\+|\[ ?(\w+) ?, ?(\w+) ?\])?', text)
-        need(parts, '%s: a range is a name, name+ or name[u,v]', text or 'nothing')
+        """name, name+, name[u,v] or name[u,]"""
+        parts = re.fullmatch('(' + NAME + r')(\+|\[ ?(\w+) ?, ?(\w*) ?\])?', text)
+        need(parts, '%s: a range is a name, name+, name[u,v] or name[u,]', text or 'nothing')
         name, bounds, u, v = parts.groups()
         n = self.number_of(name)
         need(name not in used, '%s is twice in the rule', name)
@@ -173,7 +174,8 @@ class Component:
             u, v = 1, 65535 if bounds else 1
         else:
             u = number(u, 'u of a range', 1, 65535)
-            v = number(v, 'v of a range', u, 65535)
+            need(v or self.versions[self.sheet] > 1, "a range without an upper end is of version 2: the sheet begins with 'sheet %s version 2'", self.sheet)
+            v = number(v, 'v of a range', u, 65535) if v else NO_UPPER_END
         return struct.pack('<BHH', n, u, v)
 
     def sheet_bytes(self, name):

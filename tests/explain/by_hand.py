@@ -1,11 +1,11 @@
-"""Cases by hand: what the words of document 01 and of change 1 say of their traces, and of each refusal."""
+"""Cases by hand: what the words of document 01 and of changes 1 and 2 say of their traces, and of each refusal."""
 
 import make
 from logs import log_bytes
 from runs import TEXTS, Group
 from sheets import written
 
-T, R, N, S, O = (written(sheet)[0] for sheet in (make.T, make.R, make.N, make.S, make.O))
+T, R, N, S, O, E, F, H = (written(sheet)[0] for sheet in (make.T, make.R, make.N, make.S, make.O, make.E, make.F, make.H))
 PATIENT = written(make.Sheet(2, (make.T.rules[0]._replace(t=4000000000),)))[0]
 
 TRACES = [
@@ -32,12 +32,21 @@ TRACES = [
     (O, '0@0 1@0 1@0', ['waits for: 0']),
     (O, '0@0 1@0 2@0', ['out of order: 2 is not taken there', 'expected at 0: 0, 1']),
     (O, '0@0 1@0 0@0', ['waits for: 0, 1, 2']),
+    (E, '0@0', ['waits for: 0']),
+    (E, '0@0 0@0 0@0 0@5', ['waits for: 0, 9 (until 15)']),
+    (E, '0@0 0@0 0@0 0@5 c@99', ['waits for: 0']),
+    (E, '0@0 0@5 9@16', ['late: 9 was in time until 15', 'expected at 16: 0']),
+    (E, '0@0 9@0', ['out of order: 9 is not taken there', 'expected at 0: 0']),
+    (F, '0@0 0@0 1@0 0@0', ['out of order: 0 is not taken there', 'expected at 0: 9 (until 10)']),
+    (F, '0@0 0@0 1@0 c@11', ['late: the last millisecond in time was 10', 'expected at 10: 9 (until 10)']),
+    (F, '1@0 0@0 9@1 9@2 9@10 c@99 9@99', ['late: 9 was in time until 10', 'expected at 99: 0, 1']),
+    (H, '0@0 0@0 0@0 1@0 1@0', ['waits for: 1, 2, 3']),
 ]
 
 
 def traces(runs):
-    """Traces of document 01 and of change 1: what their words say of what comes next, and until when."""
-    group = Group('traces of document 01 and of change 1 by hand')
+    """Traces of document 01 and of changes 1 and 2: what their words say of what comes next, and until when."""
+    group = Group('traces of document 01 and of changes 1 and 2 by hand')
     for book, text, lines in TRACES:
         out, err, _ = said = runs.on(book, log_bytes(make.observations(text)))
         group.hold_that(text, out[-len(lines):] == ['  ' + line for line in lines] and not err, said)
@@ -45,7 +54,7 @@ def traces(runs):
 
 
 def shown(runs):
-    """What is said of a sheet: its version, its names, its rules, and what shuffled means where it is."""
+    """What is said of a sheet: its version, its names, its rules, what shuffled means where it is, and what has no upper end."""
     group = Group('sheets of both versions by hand')
     for book, heads in HEADS.items():
         group.hold(heads, runs.on(book, b''), heads + ['whole after 0'], 0)
@@ -79,7 +88,11 @@ SHEETS = [
     (6, changed(R, 17, 64), b'', 17, 'rule 0, trigger: found 64; due an input, 0 to 63'),
     (6, changed(R, 29, 255), b'', 29, SECOND + 'name: found 255; due 0 to 63, and not in the rule yet'),
     (7, changed(R, 25, 0), b'', 25, FIRST + 'u: found 0; due 1 to 65535'),
-    (7, changed(changed(R, 25, 5), 27, 4), b'', 27, FIRST + 'v: found 4; due from u to 65535, u is 5'),
+    (7, changed(changed(R, 25, 5), 27, 4), b'', 27, FIRST + 'v: found 4; due from u to 65535, u is 5; 0, no upper end, is of version 2'),
+    (7, changed(R, 27, 0), b'', 27, FIRST + 'v: found 0; due from u to 65535, u is 1; 0, no upper end, is of version 2'),
+    (7, changed(changed(R, 25, 0), 27, 0), b'', 25, FIRST + 'u: found 0; due 1 to 65535'),
+    (7, changed(changed(changed(R, 3, 2), 25, 5), 27, 4), b'', 27, FIRST + 'v: found 4; due 0, which is no upper end, or from u to 65535, u is 5'),
+    (7, changed(changed(E, 25, 0), 27, 0), b'', 25, 'rule 0, fragment 1 of 1 in P, range 1 of 1, u: found 0; due 1 to 65535'),
     (8, changed(R, 29, 0), b'', 29, SECOND + 'name: found 0; due 0 to 63, and not in the rule yet'),
     (9, changed(R, 5, 4), b'', 17, 'rule 0, trigger: found 2; due an input, 0 to 63'),
     (9, changed(T, 5, 0), b'', 31, 'rule 0, fragment 1 of 1 in Q, range 1 of 1, name: found 1; due an output, 0 to 63, that the rule does not have yet'),
@@ -98,6 +111,11 @@ HEADS = {
         'all{..} shuffled: every name, mixed in any way; its bounds are for how often it comes in all'],
     O: ['version: 2', 'inputs: 0, 1, 2', 'outputs: none', 'rule 0  each any{0[2,3], 1[1,2]} shuffled << 2',
         'any{..} shuffled: at least one name, mixed in any way; the bounds of each that comes are for how often it comes in all'],
+    E: ['version: 2', 'inputs: 0', 'outputs: 9', 'rule 0  within 10 0[2,] => 9[1,2]', 'no upper end in rule 0: 0, 2 or more', 'deadline of rule 0: held off while P can grow by 0'],
+    F: ['version: 2', 'inputs: 0, 1', 'outputs: 9', 'rule 0  within 10 all{0[1,], 1} => 9[1,]', 'no upper end in rule 0: 0, 1 or more; 9, 1 or more',
+        'deadline of rule 0: held off while P can grow by 0'],
+    H: ['version: 2', 'inputs: 0, 1, 2, 3', 'outputs: none', 'rule 0  each 0[2,] < any{1[1,], 3[2,2]} shuffled << 2',
+        'any{..} shuffled: at least one name, mixed in any way; the bounds of each that comes are for how often it comes in all', 'no upper end in rule 0: 0, 2 or more; 1, 1 or more'],
 }
 
 

@@ -66,13 +66,16 @@ def intercom(runs):
 def faults(runs, dice, count):
     """Sheets with known faults, some with words for their names."""
     group = Group('faulty sheets, with the field')
-    known = sheets.FAULTS + sheets.VERSION_FAULTS
-    makers = [lambda s, fault=fault: sheets.faulty(dice, s, fault) for fault in known]
-    makers += [lambda s: sheets.truncated(dice, s), lambda s: sheets.prolonged(dice, s)] * 4
-    makers += [lambda s: sheets.twice_faulty(dice, s, dice.pick(known), dice.pick(known))] * 4
+
+    def makers(known):
+        faulty = [lambda s, fault=fault: sheets.faulty(dice, s, fault) for fault in known]
+        faulty += [lambda s: sheets.truncated(dice, s), lambda s: sheets.prolonged(dice, s)] * 4
+        return faulty + [lambda s: sheets.twice_faulty(dice, s, dice.pick(known), dice.pick(known))] * 4
+    makers_of = {version: makers(sheets.FAULTS + faults) for version, faults in sheets.VERSION_FAULTS.items()}
     while group.count < count:
-        sheet = sheets.some_sheet(dice, dice.chance(0.5), dice.pick([1, 2]))
-        fault = makers[group.count % len(makers)](sheet)
+        version = dice.pick([1, 2])
+        sheet = sheets.some_sheet(dice, dice.chance(0.5), version)
+        fault = makers_of[version][group.count % len(makers_of[version])](sheet)
         if fault is None:
             continue
         names = {n: 'w%d' % n for n in range(64)} if dice.chance(0.3) else {}

@@ -14,7 +14,7 @@ def word(names, name):
 
 
 def range_text(names, r):
-    bounds = {(1, 1): '', (1, 65535): '+'}.get((r.u, r.v), '[%d,%d]' % (r.u, r.v))
+    bounds = {(1, 1): '', (1, 65535): '+', (r.u, 0): '[%d,]' % r.u}.get((r.u, r.v), '[%d,%d]' % (r.u, r.v))
     return word(names, r.name) + bounds
 
 
@@ -45,6 +45,16 @@ def set_line(what, names, chosen):
     return what + ': ' + (', '.join(word(names, n) for n in sorted(chosen)) or 'none')
 
 
+def endless_lines(names, number, rule):
+    """What has no upper end, and the deadline that it holds off."""
+    endless = [[r for r in fragment.ranges if r.v == 0] for fragment in rule.p + rule.q]
+    if any(endless):
+        yield 'no upper end in rule %d: ' % number + '; '.join('%s, %d or more' % (word(names, r.name), r.u) for ranges in endless for r in ranges)
+    last = endless[len(rule.p) - 1]
+    if rule.kind == 2 and last:
+        yield 'deadline of rule %d: held off while P can grow by ' % number + ' or '.join(word(names, r.name) for r in last)
+
+
 def sheet_lines(names, sheet, count):
     """The rules that were read, all of them or those before a fault: so many."""
     rules = sheet.rules[:count]
@@ -54,7 +64,8 @@ def sheet_lines(names, sheet, count):
     plugin = {n for n in used if sheet.outputs >> n & 1}
     joins = {fragment.join for rule in rules for fragment in rule.p + rule.q}
     heads = ['version: %d' % sheet.version, set_line('inputs', names, used - plugin), set_line('outputs', names, plugin)]
-    return heads + [rule_line(names, number, rule) for number, rule in enumerate(rules)] + [line for join, line in SHUFFLED.items() if join in joins]
+    heads += [rule_line(names, number, rule) for number, rule in enumerate(rules)] + [line for join, line in SHUFFLED.items() if join in joins]
+    return heads + [line for number, rule in enumerate(rules) for line in endless_lines(names, number, rule)]
 
 
 # ---- what a rule takes
@@ -167,11 +178,14 @@ def of_log(book, log, result, names, texts):
 VALUES = {
     'mark': '4C 4F 42', 'version': '1 or 2', 'rule count': '1 to 16', 'kind': '0, 1 or 2', 'P count': '1 to 8', 'Q count': '1 to 8', 'zero Q count': '0 in kinds 0 and 1',
     'trigger': 'an input, 0 to 63', 'zero trigger': '0 in kind 2', 'zero t': '0 in kinds 0 and 1', 'range count': '1 to 8',
-    'P name': '0 to 63, and not in the rule yet', 'Q name': 'an output, 0 to 63, that the rule does not have yet', 'u': '1 to 65535', 'v': 'from u to 65535',
+    'P name': '0 to 63, and not in the rule yet', 'Q name': 'an output, 0 to 63, that the rule does not have yet', 'u': '1 to 65535',
 }
 
 
-JOIN_VALUES = {1: '0 or 1 in version 1; 2 and 3, shuffled, are of version 2', 2: '0 to 3 in version 2'}
+VERSION_VALUES = {
+    'join': {1: '0 or 1 in version 1; 2 and 3, shuffled, are of version 2', 2: '0 to 3 in version 2'},
+    'v': {1: 'from u to 65535, u is %d; 0, no upper end, is of version 2', 2: '0, which is no upper end, or from u to 65535, u is %d'},
+}
 
 
 def where(fields, place):
@@ -215,9 +229,8 @@ def field_line(names, version, fields, data, place, length):
     field, label = where(fields, place)
     if len(data) - place < field.size:
         return '  %s: found %d of its %d bytes' % (label, len(data) - place, field.size)
-    low = ', u is %d' % field.low if field.what == 'v' else ''
-    values = JOIN_VALUES[version] if field.what == 'join' else VALUES[field.what]
-    return '  %s: found %s; due %s%s' % (label, found_text(names, field, data), values, low)
+    values = VERSION_VALUES[field.what][version] if field.what in VERSION_VALUES else VALUES[field.what]
+    return '  %s: found %s; due %s' % (label, found_text(names, field, data), values % field.low if field.what == 'v' else values)
 
 
 def of_fault(sheet, written, faulty, names, texts):

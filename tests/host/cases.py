@@ -49,13 +49,13 @@ def verdict_bytes(verdict):
 # ---- sheets of many rules, which the reference's own have seldom
 
 def many_rules(dice):
-    """Five to sixteen rules, on four names each or variants of one. some_pool makes every second name an output, as some_rule wants it."""
+    """Five to sixteen rules of either version, on four names each or variants of one. some_pool makes every second name an output, as some_rule wants it."""
     pool, outputs = some_pool(dice, 64)
-    count = dice.between(5, 16)
+    count, version = dice.between(5, 16), dice.pick([1, 2])
     if dice.chance(0.6):
-        return Sheet(outputs, tuple(some_rule(dice, pool[4 * i:4 * i + 4], outputs, some_kind(dice)) for i in range(count)))
-    rule = some_rule(dice, pool[:12], outputs, some_kind(dice))
-    return Sheet(outputs, tuple(variant(dice, rule) for _ in range(count)))
+        return Sheet(outputs, tuple(some_rule(dice, pool[4 * i:4 * i + 4], outputs, some_kind(dice), version) for i in range(count)), version)
+    rule = some_rule(dice, pool[:12], outputs, some_kind(dice), version)
+    return Sheet(outputs, tuple(variant(dice, rule, version) for _ in range(count)), version)
 
 
 def many_rules_cases(dice, count):

@@ -30,7 +30,7 @@ guard_answer answer(uint8_t kind, uint8_t refusal, uint16_t mask, uint32_t place
 int same_answer(guard_answer a, guard_answer b);
 uint32_t four_bytes(const uint8_t *bytes);
 
-/* ---- rules T, R and N of document 01, "Traces to settle arguments", and S, A, O and W of change 1, each alone in its sheet */
+/* ---- rules T, R and N of document 01, "Traces to settle arguments", S, A, O and W of change 1, and E, F, G and H of change 2, each alone in its sheet */
 
 #define T_BYTES 36
 #define R_BYTES 34
@@ -39,7 +39,12 @@ uint32_t four_bytes(const uint8_t *bytes);
 #define A_BYTES 48
 #define O_BYTES 34
 #define W_BYTES 46
+#define E_BYTES 36
+#define F_BYTES 41
+#define G_BYTES 41
+#define H_BYTES 41
 extern const uint8_t sheet_t[T_BYTES], sheet_r[R_BYTES], sheet_n[N_BYTES], sheet_s[S_BYTES], sheet_a[A_BYTES], sheet_o[O_BYTES], sheet_w[W_BYTES];
+extern const uint8_t sheet_e[E_BYTES], sheet_f[F_BYTES], sheet_g[G_BYTES], sheet_h[H_BYTES];
 
 /* ---- the cases that cases.py writes */
 
@@ -98,6 +103,7 @@ guard_answer observe(const guard_book *book, guard_monitor *monitor, struct obse
 void check_openings(void);
 void check_traces(void);
 void check_cases(void);
+void check_long(const char *path);
 void check_sessions(void);
 void check_pages(void);
 void check_garbage(void);

@@ -1,4 +1,4 @@
-/* Sheets by hand: each refusal of "Where each refusal is found" with its place, by guard_open and by guard_run. The sheets are those of rules R, T and, in version 2, S with one byte
+/* Sheets by hand: each refusal of "Where each refusal is found" with its place, by guard_open and by guard_run. The sheets are those of rules R, T and, in version 2, S and E with one byte
  * changed. */
 #include "host.h"
 
@@ -12,6 +12,7 @@ struct opening {
 #define T sheet_t, T_BYTES
 #define R sheet_r, R_BYTES
 #define S sheet_s, S_BYTES
+#define E sheet_e, E_BYTES
 
 static const struct opening openings[] = {
     {R, 0, 0x4C, 0, 0},
@@ -48,7 +49,15 @@ static const struct opening openings[] = {
     {R, 24, 64, 6, 24},    /* range's name */
     {R, 25, 0, 7, 25},     /* u is 0 */
     {R, 27, 0, 7, 27},     /* v < u */
-    {S, 27, 0, 7, 27},     /* v = 0, in version 2 too */
+    {S, 27, 0, 0, 0},      /* v = 0 is no upper end in version 2 */
+    {S, 32, 0, 0, 0},      /* in the second range too, */
+    {S, 39, 0, 0, 0},      /* and in Q */
+    {E, 3, 1, 7, 27},      /* v = 0 in version 1 */
+    {E, 25, 0, 7, 25},     /* "u = 0 still meets it": at u, whatever v is */
+    {E, 25, 255, 0, 0},    /* 255 or more */
+    {E, 27, 1, 7, 27},     /* 0 < v < u */
+    {E, 27, 2, 0, 0},      /* v = u */
+    {S, 25, 3, 7, 27},     /* u = 3, v = 2 */
     {R, 29, 0, 8, 29},     /* a name twice */
     {R, 24, 2, 8, 24},     /* trigger and range */
     {T, 31, 0, 8, 31},     /* P and Q: 8 comes before 9 */

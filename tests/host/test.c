@@ -78,6 +78,13 @@ const uint8_t sheet_a[A_BYTES] = {0x4C, 0x4F, 0x42, 2, 0, 0, 2, 0, 0, 0, 0, 0, 0
 const uint8_t sheet_w[W_BYTES] = {0x4C, 0x4F, 0x42, 2, 0, 0, 0, 0, 0, 0, 0, 0, 0, 1, 1, 2, 0, 2, 0, 0, 0, 0, 2, 2, 0, 1, 0, 2, 0, 1, 2, 0, 2, 0, 3, 2, 3, 1, 0, 1, 0, 4, 2, 0, 2, 0};
 const uint8_t sheet_o[O_BYTES] = {0x4C, 0x4F, 0x42, 2, 0, 0, 0, 0, 0, 0, 0, 0, 0, 1, 1, 1, 0, 2, 0, 0, 0, 0, 3, 2, 0, 2, 0, 3, 0, 1, 1, 0, 2, 0};
 
+/* v = 0 is no upper end. E: kind 2, P = 0[2,0], Q = 9[1,2], t = 10. F: P = {0[1,0], 1[1,1]} all, Q = 9[1,0], t = 10; G: the same with P shuffled. H: kind 1, 0[2,0], then {1[1,0], 3[2,2]}
+ * any shuffled, before 2. */
+const uint8_t sheet_e[E_BYTES] = {0x4C, 0x4F, 0x42, 2, 0, 0, 2, 0, 0, 0, 0, 0, 0, 1, 2, 1, 1, 0, 10, 0, 0, 0, 0, 1, 0, 2, 0, 0, 0, 0, 1, 9, 1, 0, 2, 0};
+const uint8_t sheet_f[F_BYTES] = {0x4C, 0x4F, 0x42, 2, 0, 0, 2, 0, 0, 0, 0, 0, 0, 1, 2, 1, 1, 0, 10, 0, 0, 0, 0, 2, 0, 1, 0, 0, 0, 1, 1, 0, 1, 0, 0, 1, 9, 1, 0, 0, 0};
+const uint8_t sheet_g[G_BYTES] = {0x4C, 0x4F, 0x42, 2, 0, 0, 2, 0, 0, 0, 0, 0, 0, 1, 2, 1, 1, 0, 10, 0, 0, 0, 2, 2, 0, 1, 0, 0, 0, 1, 1, 0, 1, 0, 0, 1, 9, 1, 0, 0, 0};
+const uint8_t sheet_h[H_BYTES] = {0x4C, 0x4F, 0x42, 2, 0, 0, 0, 0, 0, 0, 0, 0, 0, 1, 1, 2, 0, 2, 0, 0, 0, 0, 0, 1, 0, 2, 0, 0, 0, 3, 2, 1, 1, 0, 0, 0, 3, 2, 0, 2, 0};
+
 /* ---- the call by hand */
 
 /* trace.lot of the printed case: 1@5 0@5 2@9 2@10 */
@@ -173,8 +180,8 @@ static void check_texts(void)
 
 int main(int argc, char **argv)
 {
-    if (argc != 2) {
-        fprintf(stderr, "usage: test CASES, a file that cases.py wrote\n");
+    if (argc != 3) {
+        fprintf(stderr, "usage: test CASES LONG, a file that cases.py wrote and long.txt\n");
         return 2;
     }
     setvbuf(stdout, NULL, _IOLBF, 0); /* a fault ends the program: what was checked before it stays seen */
@@ -186,6 +193,7 @@ int main(int argc, char **argv)
     check_openings();
     check_traces();
     check_cases();
+    check_long(argv[2]);
     check_sessions();
     check_pages();
     check_garbage();

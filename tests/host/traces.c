@@ -1,4 +1,4 @@
-/* Document 01, "Traces to settle arguments", and its printed case, and the traces of change 1: each answer of a session, and the five numbers of the call, written out by hand; and the
+/* Document 01, "Traces to settle arguments", and its printed case, and the traces of changes 1 and 2: each answer of a session, and the five numbers of the call, written out by hand; and the
  * call with each budget, held to the session. */
 #include "host.h"
 
@@ -18,6 +18,10 @@ struct trace {
 #define A sheet_a, A_BYTES
 #define O sheet_o, O_BYTES
 #define W sheet_w, W_BYTES
+#define E sheet_e, E_BYTES
+#define F sheet_f, F_BYTES
+#define G sheet_g, G_BYTES
+#define H sheet_h, H_BYTES
 
 static const struct trace traces[] = {
     {T, "", "", {0, 0, 0, 0, 0}},
@@ -52,6 +56,24 @@ static const struct trace traces[] = {
     {O, "1@0 1@0 2@0 1@0 1@0 2@0", "o o w o o w", {0, 0, 0, 6, 0}},
     {W, "0@0 1@0 0@0 1@0 4@0 3@0 4@0 2@0", "o o o o o o o w", {0, 0, 0, 8, 0}},
     {W, "0@0 1@0 0@0 1@0 4@0 3@0 2@0", "o o o o o o b7", {2, 0, 1, 7, 7}},
+    {E, "0@0 9@0", "o b2", {2, 0, 1, 2, 2}},
+    {E, "0@0 0@0 9@10", "o o w", {0, 0, 0, 3, 0}},
+    {E, "0@0 0@0 0@0 0@0 0@0 9@10", "o o o o o w", {0, 0, 0, 6, 0}},
+    {E, "0@0 0@0 0@0 0@0 c@99", "o o o o o", {1, 0, 1, 5, 0}},
+    {E, "0@0 0@0 0@50 9@60", "o o o w", {0, 0, 0, 4, 0}},
+    {E, "0@0 0@0 0@50 9@61", "o o o b4", {2, 0, 1, 4, 4}},
+    {E, "0@0 0@0 9@0 9@0 9@0", "o o w w b5", {2, 0, 1, 5, 5}},
+    {H, "0@0 0@0 1@0 0@0", "o o o b4", {2, 0, 1, 4, 4}},
+    {F, "0@0 0@0 1@0 0@0", "o o o b4", {2, 0, 1, 4, 4}},
+    {F, "0@0 0@0 1@0 c@11", "o o o b4", {2, 0, 1, 4, 4}},
+    {F, "1@0 0@0 0@0 c@99", "o o o o", {1, 0, 1, 4, 0}},
+    {G, "0@0 0@0 1@0 0@0 9@10", "o o o o w", {0, 0, 0, 5, 0}},
+    {G, "0@0 0@0 1@0 c@99", "o o o o", {1, 0, 1, 4, 0}},
+    {H, "0@0 0@0 1@0 3@0 1@0 3@0 1@0 2@0", "o o o o o o o w", {0, 0, 0, 8, 0}},
+    {H, "0@0 0@0 1@0 3@0 1@0 2@0", "o o o o o b6", {2, 0, 1, 6, 6}},
+    {F, "1@0 0@0 9@1 9@2 9@10 c@99", "o o w w w w", {0, 0, 0, 6, 0}},
+    {F, "1@0 0@0 9@1 9@2 9@10 c@99 9@99", "o o w w w w b7", {2, 0, 1, 7, 7}},
+    {F, "1@0 0@0 9@1 9@2 9@10 c@99 0@99", "o o w w w w o", {1, 0, 1, 7, 0}},
 };
 
 #define MOST 8 /* observations of a trace */
@@ -160,7 +182,7 @@ void check_traces(void)
             wrong += differs(traces[i].observations, (long)i);
         play((long)i, &traces[i], os, n, log, &counts);
     }
-    tell("traces of document 01 and of change 1 by log", by_log, wrong);
-    tell("traces of document 01 and of change 1 live, answers", counts.live, counts.wrong_live);
-    tell("traces of document 01 and of change 1, each budget as live", counts.budgets, counts.wrong_budgets);
+    tell("traces of document 01 and of changes 1 and 2 by log", by_log, wrong);
+    tell("traces of document 01 and of changes 1 and 2 live, answers", counts.live, counts.wrong_live);
+    tell("traces of document 01 and of changes 1 and 2, each budget as live", counts.budgets, counts.wrong_budgets);
 }

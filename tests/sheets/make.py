@@ -1,6 +1,6 @@
 #!/usr/bin/env python3
 """Example sheets, and what is due for each: the answer of the second reading in reference/, which is written from document 01 ("The sheet", "Where each refusal is
-found") and change 1 of document 02 and from nothing else of this repository.
+found") and changes 1 and 2 of document 02 and from nothing else of this repository.
 
   python3 tests/sheets/make.py          write crates/sheets/stdin (the sheets) and crates/sheets/stdout (a line for each: answer, number, place)
   python3 tests/sheets/make.py --check  say whether those two files are what would be written, and print how many sheets meet each refusal
@@ -51,20 +51,21 @@ def sheet(rules, outputs=0, mark=b"LOB", version=1, count=None):
     return mark + struct.pack("<HQB", version, outputs, len(rules) if count is None else count) + b"".join(rules)
 
 
-def names(first, sizes, joins):
-    """Fragments of so many ranges, named from first on."""
+def names(first, sizes, version):
+    """Fragments of so many ranges, named from first on, with every join of the version; in version 2 every fifth range has no upper end."""
     made = []
     for size in sizes:
-        made.append(fragment([a_range(n, 1 + n % 3, 65535 - n) for n in range(first, first + size)], join=len(made) % joins))
+        ranges = [a_range(n, 1 + n % 3, 0 if version > 1 and n % 5 == 0 else 65535 - n) for n in range(first, first + size)]
+        made.append(fragment(ranges, join=len(made) % (LAST_JOIN[version] + 1)))
         first += size
     return made
 
 
 def full(p_sizes, q_sizes, version=1):
     """Sixteen timed rules, of 64 names and 16 fragments each, with every join of the version: 5,774 bytes."""
-    split, joins = sum(p_sizes), LAST_JOIN[version] + 1
+    split = sum(p_sizes)
     outputs = sum(1 << n for n in range(split, 64))
-    return sheet([rule(2, names(0, p_sizes, joins), names(split, q_sizes, joins), t=4294967295 - k) for k in range(16)], outputs, version=version)
+    return sheet([rule(2, names(0, p_sizes, version), names(split, q_sizes, version), t=4294967295 - k) for k in range(16)], outputs, version=version)
 
 
 PRINTED = bytes.fromhex("4C4F42 0100 0000000000000000 01 01 01 00 02 00000000 00 02 00 0100 0100 01 0100 0100".replace(" ", ""))
@@ -81,10 +82,10 @@ def examples():
     outputs = 1 << 40 | 1 << 63
     mixed = sheet([rule(0, [pair], trigger=2), rule(1, [pair, one], trigger=9), rule(2, [one, pair], [answer], t=10)], outputs)
     yield 1, mixed
-    # the same in version 2, with shuffled fragments, of one range too, in P and in Q, first and last
+    # the same in version 2, with shuffled fragments, of one range too, in P and in Q, first and last, and with ranges that have no upper end
     shuffled = fragment([a_range(0), a_range(1, 2, 3)], join=2)
-    one_of_two = fragment([a_range(3), a_range(4, 7, 7)], join=3)
-    in_q = fragment([a_range(40, 1, 65535), a_range(63)], join=2)
+    one_of_two = fragment([a_range(3), a_range(4, 7, 0)], join=3)
+    in_q = fragment([a_range(40, 1, 0), a_range(63)], join=2)
     yield 1, sheet([rule(0, [one_of_two], trigger=2), rule(1, [pair, fragment([a_range(5)], join=3)], trigger=9),
                     rule(2, [one_of_two, shuffled], [in_q, fragment([a_range(41)], join=2)], t=10)], outputs | 1 << 41, version=2)
     yield 1, FULL
@@ -152,6 +153,18 @@ def examples():
         yield 0, sheet([rule(0, [fragment([a_range(0, u, v)])], trigger=2)])
         yield 0, sheet([rule(2, [pair], [fragment([a_range(40), a_range(63, u, v)])])], outputs)
         yield 0, sheet([rule(0, [fragment([a_range(0, u, v)], join=2)], trigger=2)], version=2)
+    # v = 0 by version, kind, part and join: u = 0 is found before it, and 0 < v < u stays 7
+    for version, last in LAST_JOIN.items():
+        for join in range(last + 1):
+            for u, v in ((1, 0), (65535, 0), (0, 0), (3, 2)):
+                ranges = [a_range(40, u, v)]
+                for kind in (0, 1):
+                    yield 0, sheet([rule(kind, [fragment(ranges, join)], trigger=2)], version=version)
+                yield 0, sheet([rule(2, [fragment([a_range(1, u, v)], join)], [answer])], outputs, version=version)
+                yield 0, sheet([rule(2, [fragment([a_range(1)])], [fragment([a_range(63)] + ranges, join)])], outputs, version=version)
+    # of two that are wrong in version 1 the first decides
+    yield 0, sheet([rule(1, [fragment([a_range(0, 1, 0), a_range(1, 1, 0)])], trigger=2)])
+    yield 0, sheet([rule(1, [fragment([a_range(0, 5, 0), a_range(1, 5, 4)])], trigger=2)], version=2)
     # 8: in one fragment, in two, in P and Q, trigger and range
     yield 0, sheet([rule(1, [fragment([a_range(0), a_range(0)])], trigger=2)])
     yield 0, sheet([rule(1, [fragment([a_range(0)]), fragment([a_range(1), a_range(0)])], trigger=2)])
@@ -199,7 +212,7 @@ def random_sheet(rng, version):
         def some(source, most):
             made = []
             for _ in range(rng.randint(1, most)):
-                made.append(fragment([random_range(rng, source, pool) for _ in range(rng.randint(1, 3))], join=rng.randrange(LAST_JOIN[version] + 1)))
+                made.append(fragment([random_range(rng, source, pool, version) for _ in range(rng.randint(1, 3))], join=rng.randrange(LAST_JOIN[version] + 1)))
             return made
 
         trigger = 0
@@ -214,13 +227,13 @@ def random_sheet(rng, version):
     return sheet(rules, outputs, version=version)
 
 
-def random_range(rng, source, pool):
+def random_range(rng, source, pool, version):
     name = source[0] if source else 0
     for names_left in (source, pool):
         if name in names_left and rng.random() < 0.97:
             names_left.remove(name)
     u = rng.choice([1, 1, 2, 300])
-    return a_range(name, u, u + rng.choice([0, 1, 1000]))
+    return a_range(name, u, 0 if version > 1 and rng.random() < 0.2 else u + rng.choice([0, 1, 1000]))
 
 
 # ---------------------------------------------------------------- the files

@@ -19,7 +19,8 @@ sys.path[:0] = [os.path.join(HERE, ".."), os.path.join(HERE, "..", "..", "refere
 
 from guard import BROKEN, CLOCK, MOST, OPEN, Judge, read_sheet
 from logs import deadline_log, some_log, with_refusal
-from make import PRINTED_BOOK, PRINTED_TRACE, SHUFFLED_TRACES, TRACES, observations, timed_sheet, until_found
+from endless import endless_cases
+from make import ENDLESS_TRACES, PRINTED_BOOK, PRINTED_TRACE, SHUFFLED_TRACES, TRACES, observations, timed_sheet, until_found
 from sheets import Dice, some_sheet, written
 from stored import keep
 
@@ -70,34 +71,42 @@ def cases():
     for sheet, text, _ in TRACES:
         yield written(sheet)[0], observations(text), 0
     yield PRINTED_BOOK, observations(PRINTED_TRACE), 0
-    for sheet, text, _ in SHUFFLED_TRACES:
+    for sheet, text, _ in SHUFFLED_TRACES + ENDLESS_TRACES:
         yield written(sheet)[0], observations(text), 0
     dice = Dice(random.Random(SEED).random)
-    for sheet, text, _ in TRACES + SHUFFLED_TRACES:
+    for sheet, text, _ in TRACES + SHUFFLED_TRACES + ENDLESS_TRACES[::3]:
         # the last number there is: one or two are taken, the rest is refused by 13, and 12 and 11 come before it
         for before in (MOST, MOST - 1, MOST - 2):
             yield written(sheet)[0], after(dice, observations(text)), before
         yield written(sheet)[0], after(dice, observations(text)), 0
-    for version, count in ((1, 180), (2, 140)):
+    for version, count in ((1, 130), (2, 110)):
         for number in range(count):
             sheet = until_found(lambda: timed_sheet(dice, version)) if number % 2 else some_sheet(dice, dice.chance(0.4), version)
             log = deadline_log(dice, sheet) if number % 2 else some_log(dice, sheet, dice.pick([6, 10, 14]))
             for _ in range(dice.below(3)):
                 log = with_refusal(dice, log, dice.pick([11, 12]))
             yield written(sheet)[0], after(dice, log) if dice.chance(0.3) else log, 0
+    for book, log, _ in endless_cases(dice, 1):
+        if len(log) <= 150:             # the longer ones are among those of `vectors`
+            yield book, [(time, name) for name, time in struct.iter_unpack("<BI", log)], 0
+
+
+def has_no_upper_end(sheet):
+    return any(r.v == 0 for rule in sheet.rules for fragment in rule.p + rule.q for r in fragment.ranges)
 
 
 def made():
     data, lines, met = b"", [], Counter()
     for book, log, before in cases():
         words, said = line(book, log, before)
-        if book[3] == 2:
-            met.update("version 2 " + word for word in {word[0] for word in words})     # cases, not answers
+        met.update("version 2 " + word for word in {word[0] for word in words} if book[3] == 2)     # cases, not answers
+        met.update("no upper end " + word for word in {word[0] for word in words} if has_no_upper_end(read_sheet(book)))
         data += struct.pack("<IHH", before, len(book), len(log)) + book + b"".join(struct.pack("<BI", name, time) for time, name in log)
         lines += [said, said]
         met.update(word if word[0] == "r" else word[0] for word in words)
     assert len(data) <= ROOM, len(data)
-    assert all(met[word] >= 20 for word in ("w", "o", "b", "r11", "r12", "r13", "version 2 w", "version 2 o", "version 2 b", "version 2 r")), met
+    kinds = ["w", "o", "b", "r11", "r12", "r13"] + [of + word for of in ("version 2 ", "no upper end ") for word in "wobr"]
+    assert all(met[word] >= 20 for word in kinds), met
     return data, "".join(lines).encode(), met
 
 

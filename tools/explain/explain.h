@@ -13,6 +13,7 @@
 #define VERSIONS 2  /* of sheets: 1 and 2 */
 #define ANY 1       /* a join's bits: some of the ranges are enough, */
 #define SHUFFLED 2  /* and their blocks are mixed, from version 2 on */
+#define NO_UPPER_END 0 /* as v: u times or more, from version 2 on */
 #define CLOCK 0xFFu /* a record's name where it is a clock reading */
 
 struct bytes {

@@ -26,7 +26,7 @@ static const char help[] = "\n"
                            "  each P << i       P before each i\n"
                            "  within T P => Q   after each P a Q, its last event at most T milliseconds after P's last\n"
                            "  all{a, b} < any{c, d} < e   first a and b in any order, then c or d or both, then e\n"
-                           "  a  a+  a[2,9]     once, 1 to 65535 times in a row, 2 to 9 times in a row\n"
+                           "  a  a+  a[2,9]  a[2,]        once, 1 to 65535 times in a row, 2 to 9 times, 2 times or more\n"
                            "  all{a, b[2,9]} shuffled     an a and 2 to 9 b, mixed in any way; likewise any{..} shuffled\n"
                            "\n"
                            "Exit status: 0 whole or open, 1 broken, 2 refused, 3 could not run.\n";

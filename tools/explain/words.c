@@ -23,12 +23,14 @@ void print_record(const struct names *names, struct record record)
 
 /* ---- rules */
 
-/* a, a+ for 1 to 65535 times, a[u,v] */
+/* a, a+ for 1 to 65535 times, a[u,v], a[u,] for u times or more */
 static void print_range(const struct names *names, const struct range *range)
 {
     print_name(names, range->name);
     if (range->u == 1 && range->v == UINT16_MAX)
         printf("+");
+    else if (range->v == NO_UPPER_END)
+        printf("[%u,]", (unsigned)range->u);
     else if (range->u != 1 || range->v != 1)
         printf("[%u,%u]", (unsigned)range->u, (unsigned)range->v);
 }
@@ -100,6 +102,49 @@ static int has_join(const struct sheet *sheet, unsigned join)
     return 0;
 }
 
+/* The names of a fragment's ranges that have no upper end, the first of them behind `before` and the others behind `between`; with how often each comes, where that is asked. Gives what
+ * stands before one more. */
+static const char *print_endless(const struct names *names, const struct fragment *fragment, const char *before, const char *between, int with_u)
+{
+    for (unsigned i = 0; i < fragment->count; i++)
+        if (fragment->ranges[i].v == NO_UPPER_END) {
+            printf("%s", before);
+            print_name(names, fragment->ranges[i].name);
+            if (with_u)
+                printf(", %u or more", (unsigned)fragment->ranges[i].u);
+            before = between;
+        }
+    return before;
+}
+
+static int has_endless(const struct fragment *fragments, unsigned count)
+{
+    for (unsigned i = 0; i < count; i++)
+        for (unsigned j = 0; j < fragments[i].count; j++)
+            if (fragments[i].ranges[j].v == NO_UPPER_END)
+                return 1;
+    return 0;
+}
+
+/* What a rule has without an upper end, in words; and, if its P may end in such a range, what comes of it. */
+static void print_no_upper_end(const struct names *names, const struct sheet *sheet, unsigned rule)
+{
+    const struct rule *r = &sheet->rules[rule];
+    const struct fragment *last = &r->fragments[r->p_count - 1];
+    const char *before = " ";
+    if (!has_endless(r->fragments, r->p_count + r->q_count))
+        return;
+    printf("no upper end in rule %u:", rule);
+    for (unsigned i = 0; i < r->p_count + r->q_count; i++)
+        before = print_endless(names, &r->fragments[i], before, "; ", 1);
+    printf("\n");
+    if (r->kind == TIMED && has_endless(last, 1)) {
+        printf("deadline of rule %u: held off while P can grow by", rule);
+        print_endless(names, last, " ", " or ", 0);
+        printf("\n");
+    }
+}
+
 void print_sheet(const struct names *names, const struct sheet *sheet)
 {
     if (sheet->read == 0)
@@ -112,6 +157,8 @@ void print_sheet(const struct names *names, const struct sheet *sheet)
         printf("all{..} shuffled: every name, mixed in any way; its bounds are for how often it comes in all\n");
     if (has_join(sheet, SHUFFLED + ANY))
         printf("any{..} shuffled: at least one name, mixed in any way; the bounds of each that comes are for how often it comes in all\n");
+    for (unsigned i = 0; i < sheet->read; i++)
+        print_no_upper_end(names, sheet, i);
 }
 
 /* ---- fields */
@@ -141,7 +188,7 @@ static void print_value(const struct names *names, const struct field *f)
     }
 }
 
-/* What such a field may hold; a v has its u as the lowest. */
+/* What such a field may hold; a bound v has its u as the lowest. */
 static const char *due(const struct field *f)
 {
     int timed = f->kind == TIMED;
@@ -170,7 +217,7 @@ static const char *due(const struct field *f)
     case U:
         return "1 to 65535";
     case V:
-        return "from u to 65535";
+        return f->version == 1 ? "from u to 65535" : "0, which is no upper end, or from u to 65535";
     default:
         return "any number";
     }
@@ -190,6 +237,6 @@ void print_field(const struct names *names, const struct field *f)
         printf("; due %s", due(f));
     }
     if (f->what == V && f->left >= f->size)
-        printf(", u is %u", f->u);
+        printf(", u is %u%s", f->u, f->version == 1 ? "; 0, no upper end, is of version 2" : "");
     printf("\n");
 }

@@ -125,3 +125,7 @@ same-book-same-sheet S T v w e = one-sheet S T v w (bookOf T) (subst (Looks S) e
 -- so two sheets that differ in the version alone have two books
 pub other-version-other-book : (S T : Sheet) → WellFormedSheet S → WellFormedSheet T → S .version ≢ T .version → bookOf S ≢ bookOf T
 other-version-other-book S T v w differ e = differ (ap (λ (X : Sheet). X .version) (same-book-same-sheet S T v w e))
+
+-- and so have two that differ in one range's v alone, as by 0 and 65535: no upper end, and the largest
+pub other-end-other-book : (S T : Sheet) → WellFormedSheet S → WellFormedSheet T → (r n i : ℕ) → rangeAt (ruleAt (S .rules) r) n i .v ≢ rangeAt (ruleAt (T .rules) r) n i .v → bookOf S ≢ bookOf T
+other-end-other-book S T v w r n i differ e = differ (ap (λ (X : Sheet). rangeAt (ruleAt (X .rules) r) n i .v) (same-book-same-sheet S T v w e))

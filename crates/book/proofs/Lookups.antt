@@ -26,7 +26,8 @@ use Rattle.book.specs.Looks.{Looks}
 use Rattle.tables.proofs.Bounds.{cap-of, cap-small}
 use Rattle.tables.proofs.WordLaws.{count-in, bit-in}
 use Rattle.layout.proofs.Accepted.{rule-formed}
-use Rattle.layout.proofs.Once.{same-place, round-names}
+use Rattle.pattern.proofs.Numbering.{round-names}
+use Rattle.layout.proofs.Once.{same-place}
 use Rattle.book.proofs.Steps.{mask-below}
 use Rattle.book.proofs.TableLaws.{rule-length, Once, mask-stays, none-stored, head-stored, cell-at}
 use Rattle.book.proofs.Turns.{turn-length}

@@ -15,7 +15,7 @@ use Rattle.pattern.specs.Model.{noFragment}
 use Rattle.names.specs.Names.{member, insert}
 use Rattle.names.proofs.Digits.{member-or}
 use Rattle.names.proofs.Sets.{member-empty, member-insert}
-use Rattle.layout.proofs.Once.{ordering-append}
+use Rattle.pattern.proofs.Numbering.{ordering-append}
 use Rattle.tables.specs.Words.{bitIn}
 use Rattle.book.proofs.Turns.{turn-length, turn-leaves, turn-at}
 use Rattle.book.specs.Tables.{stored, namesFrom, unionFrom, maskOf}

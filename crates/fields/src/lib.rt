@@ -3,13 +3,13 @@
 ghost use mathlib.Core.Path.{_≡_};
 ghost use mathlib.Core.Bool.{not, _&&_};
 ghost use Prim.Native.Nat.{_+_, _<_, _≤_};
-ghost use lib.Dec.{ltb};
+ghost use lib.Dec.{ltb, eqb};
 ghost use lib.ListN.{length};
 ghost use Rattle.names.specs.Names.{member};
 ghost use Rattle.layout.specs.Layout.{lastKind, mostFragments, lastName};
 ghost use Rattle.layout.specs.Form.{number, fieldAt};
 ghost use Rattle.layout.specs.Terms.{today, noFault};
-ghost use Rattle.layout.specs.Reading.{outside, unlike, dueZero, countFault, below, leastFault, mostFault, triggerFault, versionFault, rulesFault, kindFault, joinFault, nameFault, byKind};
+ghost use Rattle.layout.specs.Reading.{outside, unlike, dueZero, countFault, leastFault, mostFault, triggerFault, versionFault, rulesFault, kindFault, joinFault, nameFault, byKind};
 ghost use Rattle.fields.specs.Told.{Told, Value, Within};
 
 // A field: fault 0, its value and the offset after it; or the fault and its place.
@@ -100,13 +100,26 @@ pub fn count(s: &[u8], at: usize, most: u64) -> Found
     between(s, at, 1, 1, most, 4)
 }
 
-// A range's bound below the least that it may be.
-fn bound(s: &[u8], at: usize, least: u64) -> Found
+// A range's bound is 0, and that is let in: the range has no upper end.
+fn has_no_end(endless: bool, value: u64) -> bool
+    ensures { λ r. ⌜ r ≡ («endless» && eqb value 0) ⌝ }
+{
+    if endless {
+        return value == 0;
+    }
+    false
+}
+
+// A range's bound, which is at least so much, or 0 where that is let in.
+fn bound(s: &[u8], at: usize, least: u64, endless: bool) -> Found
     requires { ⌜ at ≤ length (now s) ⌝ }
-    ensures { λ r. ⌜ Told (now (s .entry)) (r .fault) (r .at) (Value 2 (r .value)) (fieldAt (now (s .entry)) 2 (below least) at) ⌝ }
+    ensures { λ r. ⌜ Told (now (s .entry)) (r .fault) (r .at) (Value 2 (r .value)) (fieldAt (now (s .entry)) 2 (mostFault «endless» least) at) ⌝ }
 {
     let f = field(s, at, 2);
     if f.fault != 0 {
+        return f;
+    }
+    if has_no_end(endless, f.value) {
         return f;
     }
     if f.value < least {
@@ -115,12 +128,12 @@ fn bound(s: &[u8], at: usize, least: u64) -> Found
     f
 }
 
-// A range's u, which is at least 1.
+// A range's u, which is at least 1 in every version.
 pub fn least(s: &[u8], at: usize) -> Found
     requires { ⌜ at ≤ length (now s) ⌝ }
     ensures { λ r. ⌜ Told (now (s .entry)) (r .fault) (r .at) (Value 2 (r .value)) (fieldAt (now (s .entry)) 2 leastFault at) ⌝ }
 {
-    bound(s, at, 1)
+    bound(s, at, 1, false)
 }
 
 // ---- the fields that go by the terms of reading
@@ -143,6 +156,9 @@ const LAST_PLAIN_JOIN: u64 = 1;
 
 const LAST_JOIN: u64 = 3;
 
+// The first version in which a range may have no upper end.
+const FIRST_ENDLESS: u64 = 2;
+
 // The last name.
 const LAST_NAME: u8 = 63;
 
@@ -159,6 +175,13 @@ fn last_join(version: u64) -> u64
         return LAST_PLAIN_JOIN;
     }
     LAST_JOIN
+}
+
+// The version allows v = 0.
+fn may_be_endless(version: u64) -> bool
+    ensures { λ r. ⌜ r ≡ today .endless version ⌝ }
+{
+    FIRST_ENDLESS <= version
 }
 
 pub fn version(s: &[u8], at: usize) -> Found
@@ -189,12 +212,12 @@ pub fn join(s: &[u8], at: usize, version: u64) -> Found
     between(s, at, 1, 0, last_join(version), 4)
 }
 
-// A range's v, which is at least u. No version allows v = 0 yet.
+// A range's v, which is at least u, or 0 where the version allows that.
 pub fn most(s: &[u8], at: usize, version: u64, u: u64) -> Found
     requires { ⌜ at ≤ length (now s) ⌝ }
     ensures { λ r. ⌜ Told (now (s .entry)) (r .fault) (r .at) (Value 2 (r .value)) (fieldAt (now (s .entry)) 2 (mostFault (today .endless version) u) at) ⌝ }
 {
-    bound(s, at, u)
+    bound(s, at, u, may_be_endless(version))
 }
 
 // ---- names

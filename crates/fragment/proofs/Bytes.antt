@@ -18,6 +18,7 @@ use denote.Laws.{Is}
 use denote.Plain.{UInt}
 use denote.Array.{Array, each}
 use borrow.Author.Tests.{eqb-true, eqb-false}
+use Rattle.recogniser.specs.Counts.{saturated}
 use Rattle.fragment.specs.Fragments.{digits, wordOf}
 
 -- lists of one length that agree at each place are equal
@@ -185,15 +186,15 @@ module _ (x : List ℕ) (i s w : ℕ) (eight : length x ≡ 8) (bytes : AreBytes
 
 -- eight choices, of which the one that is made raises a count
 pub eight-raised : (x : List ℕ) (i a₀ a₁ a₂ a₃ a₄ a₅ a₆ a₇ : ℕ) → length x ≡ 8
-    → a₀ ≡ cond (eqb i 0) ((getD x 0 0 + 1) % 65536) (getD x 0 0) → a₁ ≡ cond (eqb i 1) ((getD x 1 0 + 1) % 65536) (getD x 1 0) → a₂ ≡ cond (eqb i 2) ((getD x 2 0 + 1) % 65536) (getD x 2 0)
-    → a₃ ≡ cond (eqb i 3) ((getD x 3 0 + 1) % 65536) (getD x 3 0) → a₄ ≡ cond (eqb i 4) ((getD x 4 0 + 1) % 65536) (getD x 4 0) → a₅ ≡ cond (eqb i 5) ((getD x 5 0 + 1) % 65536) (getD x 5 0)
-    → a₆ ≡ cond (eqb i 6) ((getD x 6 0 + 1) % 65536) (getD x 6 0) → a₇ ≡ cond (eqb i 7) ((getD x 7 0 + 1) % 65536) (getD x 7 0)
-    → (a₀ ∷ a₁ ∷ a₂ ∷ a₃ ∷ a₄ ∷ a₅ ∷ a₆ ∷ a₇ ∷ []) ≡ set x i ((getD x i 0 + 1) % 65536)
-eight-raised x i a₀ a₁ a₂ a₃ a₄ a₅ a₆ a₇ l h₀ h₁ h₂ h₃ h₄ h₅ h₆ h₇ = eight-set x i ((getD x i 0 + 1) % 65536) 0 a₀ a₁ a₂ a₃ a₄ a₅ a₆ a₇ l (h₀ ∙ own 0) (h₁ ∙ own 1) (h₂ ∙ own 2) (h₃ ∙ own 3) (h₄ ∙ own 4) (h₅ ∙ own 5) (h₆ ∙ own 6) (h₇ ∙ own 7)
+    → a₀ ≡ cond (eqb i 0) (saturated (getD x 0 0 + 1)) (getD x 0 0) → a₁ ≡ cond (eqb i 1) (saturated (getD x 1 0 + 1)) (getD x 1 0) → a₂ ≡ cond (eqb i 2) (saturated (getD x 2 0 + 1)) (getD x 2 0)
+    → a₃ ≡ cond (eqb i 3) (saturated (getD x 3 0 + 1)) (getD x 3 0) → a₄ ≡ cond (eqb i 4) (saturated (getD x 4 0 + 1)) (getD x 4 0) → a₅ ≡ cond (eqb i 5) (saturated (getD x 5 0 + 1)) (getD x 5 0)
+    → a₆ ≡ cond (eqb i 6) (saturated (getD x 6 0 + 1)) (getD x 6 0) → a₇ ≡ cond (eqb i 7) (saturated (getD x 7 0 + 1)) (getD x 7 0)
+    → (a₀ ∷ a₁ ∷ a₂ ∷ a₃ ∷ a₄ ∷ a₅ ∷ a₆ ∷ a₇ ∷ []) ≡ set x i (saturated (getD x i 0 + 1))
+eight-raised x i a₀ a₁ a₂ a₃ a₄ a₅ a₆ a₇ l h₀ h₁ h₂ h₃ h₄ h₅ h₆ h₇ = eight-set x i (saturated (getD x i 0 + 1)) 0 a₀ a₁ a₂ a₃ a₄ a₅ a₆ a₇ l (h₀ ∙ own 0) (h₁ ∙ own 1) (h₂ ∙ own 2) (h₃ ∙ own 3) (h₄ ∙ own 4) (h₅ ∙ own 5) (h₆ ∙ own 6) (h₇ ∙ own 7)
   where
-    own : (k : ℕ) → cond (eqb i k) ((getD x k 0 + 1) % 65536) (getD x k 0) ≡ cond (eqb i k) ((getD x i 0 + 1) % 65536) (getD x k 0)
+    own : (k : ℕ) → cond (eqb i k) (saturated (getD x k 0 + 1)) (getD x k 0) ≡ cond (eqb i k) (saturated (getD x i 0 + 1)) (getD x k 0)
     own k = look (eqb i k) refl
       where
-        look : (b : Bool) → eqb i k ≡ b → cond b ((getD x k 0 + 1) % 65536) (getD x k 0) ≡ cond b ((getD x i 0 + 1) % 65536) (getD x k 0)
-        look true q = ap (λ (n : ℕ). (getD x n 0 + 1) % 65536) (sym (eqb-true i k q))
+        look : (b : Bool) → eqb i k ≡ b → cond b (saturated (getD x k 0 + 1)) (getD x k 0) ≡ cond b (saturated (getD x i 0 + 1)) (getD x k 0)
+        look true q = ap (λ (n : ℕ). saturated (getD x n 0 + 1)) (sym (eqb-true i k q))
         look false q = refl

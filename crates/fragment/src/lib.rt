@@ -4,6 +4,7 @@ ghost use mathlib.Core.Path.{_≡_};
 ghost use mathlib.Core.Bool.{cond};
 ghost use Prim.Native.Nat.{_+_, _*_, _/_, _%_, _-_, _^_, _<_};
 ghost use lib.ListN.{getD, set};
+ghost use Rattle.recogniser.specs.Counts.{saturated};
 ghost use Rattle.tables.specs.Cells.{lessIn};
 ghost use Rattle.fragment.specs.Fragments.{digits, wordOf, waitingOf, rangesOf};
 
@@ -80,18 +81,21 @@ pub fn with_state(x: [u8; 8], i: u8, state: u8) -> [u8; 8]
     spread(word - (old << at) + ((state as u64) << at))
 }
 
-fn raised_if(here: bool, count: u16) -> u16
-    ensures { λ r. ⌜ r ≡ cond here ((count + 1) % 65536) count ⌝ }
+fn one_if(here: bool) -> u16
+    ensures { λ r. ⌜ r ≡ cond here 1 0 ⌝ }
 {
-    if here {
-        return std::num::wrapping_add_u16(count, 1);
-    }
-    count
+    if here { 1 } else { 0 }
 }
 
-// The counts, with range i's one higher. A count that the next would not hold wraps; no count of a sheet's range goes so high.
+fn raised_if(here: bool, count: u16) -> u16
+    ensures { λ r. ⌜ r ≡ cond here (saturated (count + 1)) count ⌝ }
+{
+    recogniser::saturating_sum(count, one_if(here))
+}
+
+// The counts, with range i's one higher, or at 65,535 as it was.
 pub fn raised(x: [u16; 8], i: u8) -> [u16; 8]
-    ensures { λ r. ⌜ r ≡ set x i ((getD x i 0 + 1) % 65536) ⌝ }
+    ensures { λ r. ⌜ r ≡ set x i (saturated (getD x i 0 + 1)) ⌝ }
 {
     let at = i as u16;
     [

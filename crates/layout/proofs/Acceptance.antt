@@ -13,7 +13,7 @@ use Rattle.pattern.specs.Meaning.{Fragment, fragmentNames, orderingNames, Kind,
 use Rattle.names.specs.Names.{member, insert, insertAll}
 use Rattle.names.proofs.Sets.{member-empty}
 use Rattle.layout.specs.Terms.{noFault, Terms, today, Covered}
-use Rattle.layout.specs.Layout.{Sheet, le, each, ruleBytes, mark, encode, Output, JoinAllowed, WellFormedRule, WellFormedOn, WellFormedSheet, Bytes}
+use Rattle.layout.specs.Layout.{Sheet, le, each, ruleBytes, mark, encode, Output, Allowed, WellFormedRule, WellFormedOn, WellFormedSheet, Bytes}
 use Rattle.layout.specs.Form.{Got, got, stopped, next, fieldAt, read}
 use Rattle.layout.specs.Reading.{markFault, versionFault, rulesFault, rule, rules, sheet, Outcome, accepted, refused, atEnd, unlessLong, readSheetOn, readSheet}
 use Rattle.layout.proofs.Values.{today-covered, unlike-faultless, outside-faultless, outside-right}
@@ -103,12 +103,12 @@ only-outputs outputs (n ∷ ns) d = (ap not (d .0), only-outputs outputs ns (d .
 module _ (T : Terms) (version outputs : ℕ) where
   -- P after a trigger
   after-trigger : (p : List Fragment) (i : ℕ) → Between 1 8 (length p) → AllGood fragmentNames (FragmentFits T version outputs false) (insert 0 i) p
-      → WellFormedOrdering p × Distinct (orderingNames p ++ (i ∷ [])) × Each (JoinAllowed T version) p
+      → WellFormedOrdering p × Distinct (orderingNames p ++ (i ∷ [])) × Each (Allowed T version) p
   after-trigger p i b g =
       let a = fragments-split outputs false T version (insert 0 i) p g in
       (record { count = b; fragments = a .0 }, trigger-last i (orderingNames p) (fresh-distinct (i ∷ orderingNames p) (member-empty i, a .1)), a .3)
 
-  trigger-before : (p : List Fragment) (i : ℕ) → WellFormedOrdering p → Distinct (orderingNames p ++ (i ∷ [])) → Each (JoinAllowed T version) p
+  trigger-before : (p : List Fragment) (i : ℕ) → WellFormedOrdering p → Distinct (orderingNames p ++ (i ∷ [])) → Each (Allowed T version) p
       → AllGood fragmentNames (FragmentFits T version outputs false) (insert 0 i) p
   trigger-before p i o d j =
       fragments-join outputs false T version (insert 0 i) p (o .fragments) (distinct-fresh (i ∷ orderingNames p) (trigger-first i (orderingNames p) d) .1)
@@ -118,11 +118,11 @@ module _ (T : Terms) (version outputs : ℕ) where
   rule-formed p (once i) f =
       let a = after-trigger p i (f .header .countP) (f .p) in
       let t = f .header .byKind′ .1 in
-      record { formed = record { p = a .0; kind = t .0; distinct = a .1 }; directed = t .1; kinds = f .header .kinds; joinsP = a .2; joinsQ = tt }
+      record { formed = record { p = a .0; kind = t .0; distinct = a .1 }; directed = t .1; kinds = f .header .kinds; allowedP = a .2; allowedQ = tt }
   rule-formed p (repeated i) f =
       let a = after-trigger p i (f .header .countP) (f .p) in
       let t = f .header .byKind′ .1 in
-      record { formed = record { p = a .0; kind = t .0; distinct = a .1 }; directed = t .1; kinds = f .header .kinds; joinsP = a .2; joinsQ = tt }
+      record { formed = record { p = a .0; kind = t .0; distinct = a .1 }; directed = t .1; kinds = f .header .kinds; allowedP = a .2; allowedQ = tt }
   rule-formed p (timed q t) f =
       let a = fragments-split outputs false T version 0 p (f .p) in
       let b = fragments-split outputs true T version (insertAll 0 (orderingNames p)) q (f .q) in
@@ -134,27 +134,27 @@ module _ (T : Terms) (version outputs : ℕ) where
         };
         directed = outputs-only outputs (orderingNames q) (b .2);
         kinds = f .header .kinds;
-        joinsP = a .3;
-        joinsQ = b .3;
+        allowedP = a .3;
+        allowedQ = b .3;
       }
 
   rule-fits : (p : List Fragment) (K : Kind) → WellFormedRule T version outputs (record { kind = K; p = p }) → RuleFits T version outputs (record { kind = K; p = p })
   rule-fits p (once i) g = record {
     header = record { kinds = g .kinds; countP = g .formed .p .count; byKind′ = (refl, (g .formed .kind, g .directed), refl) };
-    p = trigger-before p i (g .formed .p) (g .formed .distinct) (g .joinsP);
+    p = trigger-before p i (g .formed .p) (g .formed .distinct) (g .allowedP);
     q = tt;
   }
   rule-fits p (repeated i) g = record {
     header = record { kinds = g .kinds; countP = g .formed .p .count; byKind′ = (refl, (g .formed .kind, g .directed), refl) };
-    p = trigger-before p i (g .formed .p) (g .formed .distinct) (g .joinsP);
+    p = trigger-before p i (g .formed .p) (g .formed .distinct) (g .allowedP);
     q = tt;
   }
   rule-fits p (timed q t) g =
       let f = fresh-append 0 (orderingNames p) (orderingNames q) (distinct-fresh (orderingNames p ++ orderingNames q) (g .formed .distinct)) in
       record {
         header = record { kinds = g .kinds; countP = g .formed .p .count; byKind′ = (g .formed .kind .0 .count, refl, g .formed .kind .1) };
-        p = fragments-join outputs false T version 0 p (g .formed .p .fragments) (f .0) (either-way outputs (orderingNames p)) (g .joinsP);
-        q = fragments-join outputs true T version (insertAll 0 (orderingNames p)) q (g .formed .kind .0 .fragments) (f .1) (only-outputs outputs (orderingNames q) (g .directed)) (g .joinsQ);
+        p = fragments-join outputs false T version 0 p (g .formed .p .fragments) (f .0) (either-way outputs (orderingNames p)) (g .allowedP);
+        q = fragments-join outputs true T version (insertAll 0 (orderingNames p)) q (g .formed .kind .0 .fragments) (f .1) (only-outputs outputs (orderingNames q) (g .directed)) (g .allowedQ);
       }
 
   rules-formed : (rs : List Rule) → AllGood none (Fit T version outputs) 0 rs → Each (WellFormedRule T version outputs) rs

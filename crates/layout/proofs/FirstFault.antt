@@ -5,7 +5,7 @@ use mathlib.Core.Path.{_≡_, refl, sym, subst, _∙_}
 use mathlib.Core.Logic.{_⊎_, inl, inr}
 use mathlib.Core.Bool.{Bool, true, false, cond}
 use mathlib.Core.List.{List}
-use Prim.Native.Nat.{ℕ, zero, suc, _+_, _<_}
+use Prim.Native.Nat.{ℕ, zero, suc, _+_, _<_, _≤_}
 use native.Mathlib.Nat.{zero-lt-suc}
 use native.Mathlib.Omega.{arith}
 use lib.Dec.{ltb}
@@ -62,7 +62,7 @@ module _ (s : List ℕ) where
           let e′ = rw q at e in
           inl (sym (place-of e′), subst (HasFault s n fault at) (number-of e′) h)
 
-  fault-stops : {A : Type 0} (m : Form A) (at : ℕ) {k place : ℕ} → FirstFault s m at k place → read s m at ≡ stopped k place
+  pub fault-stops : {A : Type 0} (m : Form A) (at : ℕ) {k place : ℕ} → FirstFault s m at k place → read s m at ≡ stopped k place
   fault-stops (done a) at h = absurd h
   fault-stops (field n fault after) at {k} {place} h = go (at-field n fault at) (fault-stops (after (number s n at)) (at + n)) h
     where
@@ -72,6 +72,15 @@ module _ (s : List ℕ) where
       go (is-right r q) ih (inr f) = rw q (ih (f .1))
       go (has-fault j h q) ih (inl f) = rw (q, one-fault n fault at h (f .1), f .0)
       go (has-fault j h q) ih (inr f) = absurd (not-right n fault at (f .0) h)
+
+  -- a reading from an offset on stops at none before it
+  fault-later : {A : Type 0} (m : Form A) (at k place : ℕ) → FirstFault s m at k place → at ≤ place
+  fault-later (done a) at k place h = absurd h
+  fault-later (field n fault after) at k place (inl f) = omega (arith, f .0)
+  fault-later (field n fault after) at k place (inr f) = omega (arith, fault-later (after (number s n at)) (at + n) k place (f .1))
+
+  pub stops-later : {A : Type 0} (m : Form A) (at : ℕ) {k place : ℕ} → read s m at ≡ stopped k place → at ≤ place
+  stops-later m at {k} {place} e = fault-later m at k place (stop-finds m at e)
 
   -- ---- the sheet, on today's terms
 

@@ -11,3 +11,4 @@ pub mod Accepted
 pub mod PageLaws
 pub mod Once
 pub mod Versions
+pub mod Endless

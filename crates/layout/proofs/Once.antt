@@ -1,14 +1,14 @@
--- The names of a rule's round and their places: each name of the rule is at one, and at no other, since none occurs twice.
+-- The names of a list of fragments and their places: each name is at one, and at no other where none occurs twice.
 -- Assumes nothing.
 use mathlib.Core.Path.{_≡_, refl, ap, sym, subst, _∙_}
 use mathlib.Core.Logic.{_⊎_, inl, inr}
-use mathlib.Core.List.{List, [], _∷_, _++_, map, append-assoc}
+use mathlib.Core.List.{List, [], _∷_, map}
 use Prim.Native.Nat.{ℕ, zero, suc, _<_}
 use native.Mathlib.Omega.{arith}
 use lib.ListN.{length, getD}
 use Rattle.pattern.specs.Lists.{In, Distinct}
-use Rattle.pattern.specs.Meaning.{Range, Fragment, fragmentNames, orderingNames, Kind, once, repeated, timed, Rule, kindNames, namesOf}
-use Rattle.pattern.specs.Model.{lastFragments, roundOf, noFragment}
+use Rattle.pattern.specs.Meaning.{Range, Fragment, fragmentNames, orderingNames}
+use Rattle.pattern.specs.Model.{noFragment}
 use Rattle.pattern.proofs.Basics.{in-left, in-right, distinct-left, distinct-right, distinct-apart}
 use Rattle.layout.specs.Pages.{noRange}
 use Rattle.layout.proofs.Sets.{in-either}
@@ -68,18 +68,3 @@ ordering-place (f ∷ fs) m h = look (in-either m (fragmentNames f) (orderingNam
     look : In m (fragmentNames f) ⊎ In m (orderingNames fs) → (In m (orderingNames fs) → (n : ℕ) × (i : ℕ) × (n < length fs) × (i < length (rangesOf fs n)) × (m ≡ nameOf (rangesOf fs n) i)) → (n : ℕ) × (i : ℕ) × (n < length (f ∷ fs)) × (i < length (rangesOf (f ∷ fs) n)) × (m ≡ nameOf (rangesOf (f ∷ fs) n) i)
     look (inl j) ih = let (i, g, e) = name-place (f .ranges) m j in (0, i, omega arith, g, e)
     look (inr j) ih = let (n, i, g, l, e) = ih j in (suc n, i, (let z : n < length fs = g in omega arith), l, e)
-
--- ---- a rule's
-
-pub ordering-append : (a b : List Fragment) → orderingNames (a ++ b) ≡ orderingNames a ++ orderingNames b
-ordering-append [] b = refl
-ordering-append (f ∷ a) b = ap (fragmentNames f ++_) (ordering-append a b) ∙ sym (append-assoc (fragmentNames f) (orderingNames a) (orderingNames b))
-
-last-names : (K : Kind) → orderingNames (lastFragments K) ≡ kindNames K
-last-names (once i) = refl
-last-names (repeated i) = refl
-last-names (timed q t) = refl
-
--- the names of a rule's round are the rule's
-pub round-names : (r : Rule) → orderingNames (roundOf r) ≡ namesOf r
-round-names r = ordering-append (r .p) (lastFragments (r .kind)) ∙ ap (orderingNames (r .p) ++_) (last-names (r .kind))

@@ -2,6 +2,7 @@
 -- A table is filled from the front: an entry is what was put there last, and nothing that is put later reaches back.
 -- Assumes nothing.
 use mathlib.Core.Path.{_≡_, refl, ap, sym, subst, _∙_}
+use mathlib.Core.Logic.{inr}
 use mathlib.Core.List.{List, [], _∷_, _++_}
 use Prim.Native.Nat.{ℕ, zero, suc, _+_, _*_, _<_, _≤_}
 use native.Mathlib.Nat.{mul-suc, add-zero}
@@ -117,7 +118,7 @@ module _ (rules : List Rule) (r : ℕ) (present : r < length rules) (few : r < 1
 -- ---- a well-formed rule's round
 
 trigger-formed : (i : ℕ) → i ≤ 63 → WellFormedFragment (triggerFragment i)
-trigger-formed i h = record { count = omega arith; ranges = (record { named = h; some = omega arith; order = omega arith; few = omega arith }, tt) }
+trigger-formed i h = record { count = omega arith; ranges = (record { named = h; some = omega arith; small = omega arith; order = inr (omega arith); few = omega arith }, tt) }
 
 -- every fragment of the round is well-formed, the trigger's too
 pub round-formed : (r : Rule) → WellFormed r → Each WellFormedFragment (roundOf r)

@@ -10,55 +10,59 @@ use lib.ListN.{length, drop}
 use Rattle.pattern.specs.Meaning.{Range, Join, all, any, allShuffled, anyShuffled, Fragment, fragmentNames, orderingNames, Kind, once, repeated, timed, Rule, Between, WellFormedRange}
 use Rattle.names.specs.Names.{insertAll}
 use Rattle.layout.specs.Terms.{noFault, Terms, Covered}
-use Rattle.layout.specs.Layout.{each, mostFragments, mostRanges, joinNumber, kindNumber, inQ, triggerOf, timeOf, rangeBytes, fragmentBytes, Header, headerOf, headerBytes, ruleBytes, JoinAllowed, Bytes}
+use Rattle.layout.specs.Layout.{each, mostFragments, mostRanges, joinNumber, kindNumber, inQ, triggerOf, timeOf, rangeBytes, fragmentBytes, Header, headerOf, headerBytes, ruleBytes, EndAllowed, Bytes}
 use Rattle.layout.specs.Form.{got, next, fieldAt, read}
 use Rattle.layout.specs.Reading.{dueZero, countFault, leastFault, mostFault, triggerFault, kindFault, joinFault, nameFault, byKind, joinOf, kindOf, triggerSet, rangeName, range, ranges, fragment, fragments, header, rule}
-use Rattle.layout.proofs.Values.{outside-faultless, outside-right, below-faultless, below-right, NameFits, name-faultless, name-right, most-is, ByKind, kind-faultless, kind-right}
+use Rattle.layout.proofs.Values.{outside-faultless, outside-right, below-faultless, below-right, most-faultless, most-right, NameFits, name-faultless, name-right, ByKind, kind-faultless, kind-right}
 use Rattle.layout.proofs.Fields.{Piece, join-pieces, field-complete, Finds}
 use Rattle.layout.proofs.Forms.{next-got, field-got, next-same, moved, read-bind, several-length, Sound, AllGood, several-sound, several-complete}
 
 -- ---- a range
 
 -- a range that may stand after the names so far
-abbrev pub RangeFits : ℕ → Bool → ℕ → Range → Type 0
-RangeFits outputs ofQ used r = WellFormedRange r × NameFits outputs ofQ used (r .name)
+pub record RangeFits (T : Terms) (version outputs : ℕ) (ofQ : Bool) (used : ℕ) (r : Range) : Type 0 where
+  pub formed : WellFormedRange r
+  pub named : NameFits outputs ofQ used (r .name)
+  pub ended : EndAllowed T version r
 
 module _ {T : Terms} (covered : Covered T) (s : List ℕ) (version outputs : ℕ) (ofQ : Bool) where
   range-sound : Bytes s → (used at end : ℕ) (r : Range) → at ≤ length s → read s (range T version outputs ofQ used) at ≡ got r end
-      → Sound s rangeBytes (RangeFits outputs ofQ used) at r end
+      → Sound s rangeBytes (RangeFits T version outputs ofQ used) at r end
   unfolding range
   range-sound bytes used at end r h e =
       let (n, at₁, a, k₁) = field-got bytes 1 (nameFault T outputs ofQ used) at e in
       let (u, at₂, b, k₂) = field-got bytes 2 leastFault at₁ k₁ in
       let (v, at₃, d, k₃) = field-got bytes 2 (mostFault (T .endless version) u) at₂ k₂ in
       let f = name-faultless covered outputs ofQ used n (a .faultless) in
-      moved (λ (x : Range) (k : ℕ). Sound s rangeBytes (RangeFits outputs ofQ used) at x k) k₃
+      let some : 1 ≤ u = below-faultless 1 u (b .faultless) in
+      let m = most-faultless (T .endless version) u v some (d .faultless) in
+      moved (λ (x : Range) (k : ℕ). Sound s rangeBytes (RangeFits T version outputs ofQ used) at x k) k₃
       (record {
         piece = join-pieces (a .piece) (join-pieces (b .piece) (d .piece));
-        good = (
-          record {
-            named = f .0;
-            some = below-faultless 1 u (b .faultless);
-            order = below-faultless u v (sym (most-is covered version u v) ∙ d .faultless);
-            few = omega (arith, d .small);
-          },
-          f .1,
-        );
+        good = record {
+          formed = record { named = f .0; some = some; small = omega (arith, b .small); order = m .0; few = omega (arith, d .small) };
+          named = f .1;
+          ended = m .1;
+        };
       })
 
-  range-complete : (used at : ℕ) (r : Range) (rest : List ℕ) → at ≤ length s → RangeFits outputs ofQ used r → drop at s ≡ rangeBytes r ++ rest
+  range-complete : (used at : ℕ) (r : Range) (rest : List ℕ) → at ≤ length s → RangeFits T version outputs ofQ used r → drop at s ≡ rangeBytes r ++ rest
       → Finds s (read s (range T version outputs ofQ used) at) r rest
   unfolding range
-  range-complete used at r rest h (g, f) e =
-      let a = field-complete s 1 (nameFault T outputs ofQ used) (r .name) at h (omega (arith, g .named)) (name-right covered outputs ofQ used (r .name) (g .named) f) e in
-      let b = field-complete s 2 leastFault (r .u) (a .end) (a .inside) (omega (arith, g .order, g .few)) (below-right 1 (r .u) (g .some)) (a .left) in
-      let d = field-complete s 2 (mostFault (T .endless version) (r .u)) (r .v) (b .end) (b .inside) (omega (arith, g .few)) (most-is covered version (r .u) (r .v) ∙ below-right (r .u) (r .v) (g .order)) (b .left) in
+  range-complete used at r rest h g e =
+      let w : WellFormedRange r = g .formed in
+      let a = field-complete s 1 (nameFault T outputs ofQ used) (r .name) at h (omega (arith, w .named)) (name-right covered outputs ofQ used (r .name) (w .named) (g .named)) e in
+      let b = field-complete s 2 leastFault (r .u) (a .end) (a .inside) (omega (arith, w .small)) (below-right 1 (r .u) (w .some)) (a .left) in
+      let m = most-right (T .endless version) (r .u) (r .v) (w .order, g .ended) in
+      let d = field-complete s 2 (mostFault (T .endless version) (r .u)) (r .v) (b .end) (b .inside) (omega (arith, w .few)) m (b .left) in
       record { end = d .end; reads = rw (a .reads, b .reads, d .reads); left = d .left; inside = d .inside }
 
 -- ---- a fragment
 
-abbrev pub FragmentFits : Terms → ℕ → ℕ → Bool → ℕ → Fragment → Type 0
-FragmentFits T version outputs ofQ used f = JoinAllowed T version f × (Between 1 8 (length (f .ranges)) × AllGood rangeName (RangeFits outputs ofQ) used (f .ranges))
+pub record FragmentFits (T : Terms) (version outputs : ℕ) (ofQ : Bool) (used : ℕ) (f : Fragment) : Type 0 where
+  pub join : joinNumber (f .join) ≤ T .lastJoin version
+  pub count : Between 1 8 (length (f .ranges))
+  pub ranges : AllGood rangeName (RangeFits T version outputs ofQ) used (f .ranges)
 
 -- the number of a join that some version allows
 pub join-number : {T : Terms} → Covered T → (version j : ℕ) → Between 0 (T .lastJoin version) j → joinNumber (joinOf j) ≡ j
@@ -95,14 +99,14 @@ module _ {T : Terms} (covered : Covered T) (s : List ℕ) (version outputs : ℕ
       let (j, at₁, a, k₁) = field-got bytes 1 (joinFault T version) at (sym (read-fragment used at) ∙ e) in
       let (n, at₂, b, k₂) = field-got bytes 1 (countFault mostRanges) at₁ k₁ in
       let (rs, at₃, e₃, k₃) = next-got (read s (ranges T version outputs ofQ used n) at₂) k₂ in
-      let d : Sound s (each rangeBytes) (λ (ys : List Range). (length ys ≡ n) × AllGood rangeName (RangeFits outputs ofQ) used ys) at₂ rs at₃
-      = several-sound s (range T version outputs ofQ) rangeName rangeBytes (RangeFits outputs ofQ) (range-sound covered s version outputs ofQ bytes) n used at₂ at₃ rs (b .piece .inside) e₃ in
+      let d : Sound s (each rangeBytes) (λ (ys : List Range). (length ys ≡ n) × AllGood rangeName (RangeFits T version outputs ofQ) used ys) at₂ rs at₃
+      = several-sound s (range T version outputs ofQ) rangeName rangeBytes (RangeFits T version outputs ofQ) (range-sound covered s version outputs ofQ bytes) n used at₂ at₃ rs (b .piece .inside) e₃ in
       let allowed = outside-faultless 3 0 (T .lastJoin version) j (a .faultless) in
       let same : joinNumber (joinOf j) ≡ j = join-number covered version j allowed in
       moved (λ (x : Fragment) (k : ℕ). Sound s fragmentBytes (FragmentFits T version outputs ofQ used) at x k) k₃
       (record {
         piece = rw (same, d .good .0) (join-pieces (a .piece) (join-pieces (b .piece) (d .piece)));
-        good = (rw same (allowed .1), (rw (d .good .0) (outside-faultless 3 1 8 n (b .faultless)), d .good .1));
+        good = record { join = rw same (allowed .1); count = rw (d .good .0) (outside-faultless 3 1 8 n (b .faultless)); ranges = d .good .1 };
       })
 
   pub fragments-sound : Bytes s → (n used at end : ℕ) (fs : List Fragment) → at ≤ length s → read s (fragments T version outputs ofQ used n) at ≡ got fs end
@@ -118,11 +122,11 @@ module _ {T : Terms} (covered : Covered T) (s : List ℕ) (version outputs : ℕ
       let n : ℕ = length (f .ranges) in
       let j : ℕ = joinNumber (f .join) in
       let tail : List ℕ = each rangeBytes (f .ranges) in
-      let a = field-complete s 1 (joinFault T version) j at h (omega (arith, g .0, covered .joins version)) (outside-right 4 0 (T .lastJoin version) j (omega arith, g .0)) e in
-      let b = field-complete s 1 (countFault mostRanges) n (a .end) (a .inside) (omega (arith, g .1 .0)) (outside-right 4 1 8 n (g .1 .0)) (a .left) in
+      let a = field-complete s 1 (joinFault T version) j at h (omega (arith, g .join, covered .joins version)) (outside-right 4 0 (T .lastJoin version) j (omega arith, g .join)) e in
+      let b = field-complete s 1 (countFault mostRanges) n (a .end) (a .inside) (omega (arith, g .count)) (outside-right 4 1 8 n (g .count)) (a .left) in
       let d : Finds s (read s (ranges T version outputs ofQ used n) (b .end)) (f .ranges) rest
-      = several-complete s (range T version outputs ofQ) rangeName rangeBytes (RangeFits outputs ofQ) (range-complete covered s version outputs ofQ)
-      (f .ranges) used (b .end) rest (b .inside) (g .1 .1) (b .left) in
+      = several-complete s (range T version outputs ofQ) rangeName rangeBytes (RangeFits T version outputs ofQ) (range-complete covered s version outputs ofQ)
+      (f .ranges) used (b .end) rest (b .inside) (g .ranges) (b .left) in
       record {
         end = d .end;
         reads = read-fragment used at ∙ rw (a .reads, b .reads, d .reads, join-of (f .join));

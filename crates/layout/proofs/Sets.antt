@@ -15,7 +15,7 @@ use Rattle.pattern.proofs.Basics.{in-left, in-right}
 use Rattle.names.specs.Names.{member, insert, insertAll}
 use Rattle.names.proofs.Sets.{member-insert, member-empty}
 use Rattle.layout.specs.Terms.{Terms}
-use Rattle.layout.specs.Layout.{JoinAllowed}
+use Rattle.layout.specs.Layout.{EndAllowed, Allowed}
 use Rattle.layout.specs.Reading.{rangeName}
 use Rattle.layout.proofs.Forms.{AllGood}
 use Rattle.layout.proofs.Parts.{RangeFits, FragmentFits}
@@ -102,43 +102,51 @@ pub append-fresh : (w : ℕ) (a b : List ℕ) → Fresh w a → Fresh (insertAll
 append-fresh w [] b f g = g
 append-fresh w (n ∷ a) b f g = (f .0, append-fresh (insert w n) a b (f .1) g)
 
--- ---- fragments that fit are well-formed ones of new names, in the direction due
+-- ---- fragments that fit are well-formed ones that the version allows, of new names, in the direction due
 
 module _ (outputs : ℕ) (ofQ : Bool) where
   abbrev pub Direction : ℕ → Type 0
   Direction n = (ofQ && not (member outputs n)) ≡ false
 
-  ranges-split : (w : ℕ) (rs : List Range) → AllGood rangeName (RangeFits outputs ofQ) w rs
-      → Each WellFormedRange rs × Fresh w (map (λ (r : Range). r .name) rs) × Each Direction (map (λ (r : Range). r .name) rs)
-  ranges-split w [] g = (tt, tt, tt)
-  ranges-split w (r ∷ rs) g =
-      let a = ranges-split (insert w (r .name)) rs (g .1) in
-      ((g .0 .0, a .0), (g .0 .1 .0, a .1), (g .0 .1 .1, a .2))
-
-  ranges-join : (w : ℕ) (rs : List Range) → Each WellFormedRange rs → Fresh w (map (λ (r : Range). r .name) rs) → Each Direction (map (λ (r : Range). r .name) rs)
-      → AllGood rangeName (RangeFits outputs ofQ) w rs
-  ranges-join w [] g f d = tt
-  ranges-join w (r ∷ rs) g f d = ((g .0, (f .0, d .0)), ranges-join (insert w (r .name)) rs (g .1) (f .1) (d .1))
-
   module _ (T : Terms) (version : ℕ) where
+    -- the ranges of a fragment, as the reading asks them of the names so far: what the meaning asks of each, new names in the direction due, and ends that the version allows
+    record RangesApart (w : ℕ) (rs : List Range) : Type 0 where
+      formed : Each WellFormedRange rs
+      fresh : Fresh w (map (λ (r : Range). r .name) rs)
+      directed : Each Direction (map (λ (r : Range). r .name) rs)
+      ends : Each (EndAllowed T version) rs
+
+    ranges-split : (w : ℕ) (rs : List Range) → AllGood rangeName (RangeFits T version outputs ofQ) w rs → RangesApart w rs
+    ranges-split w [] g = record { formed = tt; fresh = tt; directed = tt; ends = tt }
+    ranges-split w (r ∷ rs) (g, gs) =
+        let a = ranges-split (insert w (r .name)) rs gs in
+        record { formed = (g .formed, a .formed); fresh = (g .named .0, a .fresh); directed = (g .named .1, a .directed); ends = (g .ended, a .ends) }
+
+    ranges-join : (w : ℕ) (rs : List Range) → RangesApart w rs → AllGood rangeName (RangeFits T version outputs ofQ) w rs
+    ranges-join w [] a = tt
+    ranges-join w (r ∷ rs) a = (
+      record { formed = a .formed .0; named = (a .fresh .0, a .directed .0); ended = a .ends .0 },
+      ranges-join (insert w (r .name)) rs (record { formed = a .formed .1; fresh = a .fresh .1; directed = a .directed .1; ends = a .ends .1 }),
+    )
+
     pub fragments-split : (w : ℕ) (fs : List Fragment) → AllGood fragmentNames (FragmentFits T version outputs ofQ) w fs
-        → Each WellFormedFragment fs × Fresh w (orderingNames fs) × Each Direction (orderingNames fs) × Each (JoinAllowed T version) fs
+        → Each WellFormedFragment fs × Fresh w (orderingNames fs) × Each Direction (orderingNames fs) × Each (Allowed T version) fs
     fragments-split w [] g = (tt, tt, tt, tt)
-    fragments-split w (f ∷ fs) g =
-        let a = ranges-split w (f .ranges) (g .0 .1 .1) in
-        let b = fragments-split (insertAll w (fragmentNames f)) fs (g .1) in (
-          (record { count = g .0 .1 .0; ranges = a .0 }, b .0),
-          append-fresh w (fragmentNames f) (orderingNames fs) (a .1) (b .1),
-          each-append Direction (fragmentNames f) (orderingNames fs) (a .2) (b .2),
-          (g .0 .0, b .3),
+    fragments-split w (f ∷ fs) (g, gs) =
+        let a = ranges-split w (f .ranges) (g .ranges) in
+        let b = fragments-split (insertAll w (fragmentNames f)) fs gs in (
+          (record { count = g .count; ranges = a .formed }, b .0),
+          append-fresh w (fragmentNames f) (orderingNames fs) (a .fresh) (b .1),
+          each-append Direction (fragmentNames f) (orderingNames fs) (a .directed) (b .2),
+          (record { join = g .join; ends = a .ends }, b .3),
         )
 
-    pub fragments-join : (w : ℕ) (fs : List Fragment) → Each WellFormedFragment fs → Fresh w (orderingNames fs) → Each Direction (orderingNames fs) → Each (JoinAllowed T version) fs
+    pub fragments-join : (w : ℕ) (fs : List Fragment) → Each WellFormedFragment fs → Fresh w (orderingNames fs) → Each Direction (orderingNames fs) → Each (Allowed T version) fs
         → AllGood fragmentNames (FragmentFits T version outputs ofQ) w fs
     fragments-join w [] g f d j = tt
     fragments-join w (x ∷ fs) g f d j =
         let a = fresh-append w (fragmentNames x) (orderingNames fs) f in
         let b = append-each Direction (fragmentNames x) (orderingNames fs) d in (
-          (j .0, (g .0 .count, ranges-join w (x .ranges) (g .0 .ranges) (a .0) (b .0))),
+          record { join = j .0 .join; count = g .0 .count; ranges = ranges-join w (x .ranges) (record { formed = g .0 .ranges; fresh = a .0; directed = b .0; ends = j .0 .ends }) },
           fragments-join (insertAll w (fragmentNames x)) fs (g .1) (a .1) (b .1) (j .1),
         )

@@ -1,11 +1,13 @@
--- The faults of a field's value: a value has none exactly when it is what document 01 asks of it.
+-- The faults of a field's value: a value has none exactly when it is what documents 01 and 02 ask of it.
 -- Assumes nothing.
-use mathlib.Core.Path.{_≡_, refl}
+use mathlib.Core.Path.{_≡_, refl, sym, _∙_}
+use mathlib.Core.Logic.{_⊎_, inl, inr}
 use mathlib.Core.Bool.{Bool, true, false, cond, not, _&&_}
 use Prim.Native.Nat.{ℕ, zero, suc, _≤_, _<_, _^_}
+use native.Mathlib.Nat.{zero-lt-suc}
 use native.Mathlib.Omega.{arith}
 use lib.Dec.{ltb}
-use borrow.Author.Tests.{lt-ltb, le-ltb, ltb-false}
+use borrow.Author.Tests.{ne-eqb, lt-ltb, le-ltb, ltb-false}
 use Rattle.pattern.specs.Meaning.{Between}
 use Rattle.names.specs.Names.{member, insert, withName}
 use Rattle.layout.specs.Layout.{Input}
@@ -20,7 +22,7 @@ in-order false false false z = (refl, refl, refl)
 
 -- on terms that the meaning covers, as today's are
 pub today-covered : Covered today
-today-covered = record { versions = omega arith; joins = λ v. few (ltb v firstShuffled); ends = λ v. refl; rules = omega arith; faultless = in-order; right = refl }
+today-covered = record { versions = omega arith; joins = λ v. few (ltb v firstShuffled); rules = omega arith; faultless = in-order; right = refl }
   where
     few : (b : Bool) → cond b 1 3 ≤ 3
     few true = omega arith
@@ -28,7 +30,7 @@ today-covered = record { versions = omega arith; joins = λ v. few (ltb v firstS
 
 -- and as document 01's were
 pub base-covered : Covered base
-base-covered = record { versions = omega arith; joins = λ v. omega arith; ends = λ v. refl; rules = omega arith; faultless = in-order; right = refl }
+base-covered = record { versions = omega arith; joins = λ v. omega arith; rules = omega arith; faultless = in-order; right = refl }
 
 pub outside-faultless : (k first last x : ℕ) → outside (suc k) first last x ≡ 0 → Between first last x
 outside-faultless k first last x = go (ltb x first) (ltb last x) refl refl
@@ -54,6 +56,25 @@ below-faultless least x = go (ltb x least) refl
 pub below-right : (least x : ℕ) → least ≤ x → below least x ≡ 0
 below-right least x h = rw (le-ltb x least h)
 
+-- v: other than 0 it is held to u in every version
+pub most-bounded : (endless : Bool) (u v : ℕ) → 0 < v → mostFault endless u v ≡ below u v
+most-bounded true u v some = rw (ne-eqb v 0 (λ e. omega (arith, some, e)))
+most-bounded false u v some = refl
+
+-- what the meaning asks of it, and what the version does
+abbrev pub MostFits : Bool → ℕ → ℕ → Type 0
+MostFits endless u v = ((v ≡ 0) ⊎ (u ≤ v)) × (v ≡ 0 → endless ≡ true)
+
+pub most-faultless : (endless : Bool) (u v : ℕ) → 1 ≤ u → mostFault endless u v ≡ 0 → MostFits endless u v
+most-faultless true u zero some z = (inl refl, λ _. refl)
+most-faultless false u zero some z = absurd (omega (arith, some, below-faultless u 0 z))
+most-faultless endless u (suc v) some z = (inr (below-faultless u (suc v) (sym (most-bounded endless u (suc v) (zero-lt-suc v)) ∙ z)), λ e. absurd (omega (arith, e)))
+
+pub most-right : (endless : Bool) (u v : ℕ) → MostFits endless u v → mostFault endless u v ≡ 0
+most-right endless u zero (order, allowed) = rw (allowed refl)
+most-right endless u (suc v) (inl e, allowed) = absurd (omega (arith, e))
+most-right endless u (suc v) (inr h, allowed) = most-bounded endless u (suc v) (zero-lt-suc v) ∙ below-right u (suc v) h
+
 -- a name that may come after the names so far, in Q or not
 abbrev pub NameFits : ℕ → Bool → ℕ → ℕ → Type 0
 NameFits outputs ofQ used n = (member used n ≡ false) × ((ofQ && not (member outputs n)) ≡ false)
@@ -67,10 +88,6 @@ module _ {T : Terms} (covered : Covered T) where
     where
       go : {a b c : Bool} → a ≡ false → b ≡ false → c ≡ false → T .inOrder a b c ≡ 0
       go p q r = rw (p, q, r) (covered .right)
-
-  -- the meaning has no v = 0 yet
-  pub most-is : (version u v : ℕ) → mostFault (T .endless version) u v ≡ below u v
-  most-is version u v = rw (covered .ends version)
 
 abbrev pub TriggerFits : ℕ → ℕ → Type 0
 TriggerFits outputs i = (i ≤ 63) × Input outputs i

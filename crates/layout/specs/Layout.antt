@@ -130,18 +130,23 @@ Directed outputs (repeated i) = Input outputs i
 Directed outputs (timed q t) = Each (Output outputs) (orderingNames q)
 
 module _ (T : Terms) where
-  -- the version allows the fragment's join
-  abbrev pub JoinAllowed : ℕ → Fragment → Type 0
-  JoinAllowed version f = joinNumber (f .join) ≤ T .lastJoin version
+  -- the version allows the range's v: 0 only where the version has it
+  abbrev pub EndAllowed : ℕ → Range → Type 0
+  EndAllowed version r = r .v ≡ 0 → T .endless version ≡ true
+
+  -- the version allows the fragment
+  pub record Allowed (version : ℕ) (f : Fragment) : Type 0 where
+    pub join : joinNumber (f .join) ≤ T .lastJoin version
+    pub ends : Each (EndAllowed version) (f .ranges)
 
   -- a rule that may stand in a sheet of this version with these outputs
   pub record WellFormedRule (version outputs : ℕ) (r : Rule) : Type 0 where
     pub formed : WellFormed r
     pub directed : Directed outputs (r .kind)
-    -- the version allows its kind and its joins
+    -- the version allows its kind, its joins and its ranges' ends
     pub kinds : T .firstKind version ≤ kindNumber (r .kind)
-    pub joinsP : Each (JoinAllowed version) (r .p)
-    pub joinsQ : Each (JoinAllowed version) (inQ (r .kind))
+    pub allowedP : Each (Allowed version) (r .p)
+    pub allowedQ : Each (Allowed version) (inQ (r .kind))
 
   pub record WellFormedOn (S : Sheet) : Type 0 where
     pub known : Between 1 (T .newest) (S .version)

@@ -3,12 +3,12 @@
 use mathlib.Core.Path.{_≡_}
 use mathlib.Core.Bool.{Bool, true, false, cond, not, _&&_}
 use mathlib.Core.List.{List, [], _∷_}
-use Prim.Native.Nat.{ℕ, zero, suc, _≤_, _<_}
+use Prim.Native.Nat.{ℕ, zero, suc, _+_, _≤_, _<_}
 use lib.Dec.{ltb, eqb}
 use lib.ListN.{length}
 use Rattle.pattern.specs.Meaning.{Range, Join, all, any, allShuffled, anyShuffled, Fragment, fragmentNames, orderingNames, Kind, once, repeated, timed, Rule}
 use Rattle.names.specs.Names.{member, insert, insertAll}
-use Rattle.layout.specs.Terms.{_when_or_, noFault, Terms, today}
+use Rattle.layout.specs.Terms.{_when_or_, noFault, Terms, withShuffles, today}
 use Rattle.layout.specs.Layout.{Sheet, Header, mark, lastKind, mostFragments, mostRanges, lastName}
 use Rattle.layout.specs.Form.{Form, done, field, _>>=_, ask, Got, got, stopped, number, read}
 
@@ -40,7 +40,7 @@ below least x = 7 when ltb x least or 0
 abbrev pub leastFault : ℕ → ℕ
 leastFault = below 1
 
--- v, where v = 0 is let in
+-- v; "at field v refusal 7 is not given for v = 0" where the version lets it in
 abbrev pub mostFault : Bool → ℕ → ℕ → ℕ
 mostFault endless u v = cond (endless && eqb v 0) 0 (below u v)
 
@@ -177,3 +177,14 @@ readSheetOn T s = unlessLong (T .bytes (length s)) (atEnd s (read s (sheet T) 0)
 
 abbrev pub readSheet : List ℕ → Outcome
 readSheet = readSheetOn today
+
+-- ---- change 2
+
+-- bytes whose answer change 2 changes: of version 2, with a field of two bytes that is 0, at which the terms of before said 7 and today's do not. So the field is a v: u = 0 is 7 on both
+pub record EndlessRefused (s : List ℕ) : Type 0 where
+  pub version : HasVersion 2 s
+  pub place : ℕ
+  pub inside : place + 2 ≤ length s
+  pub zero : number s 2 place ≡ 0
+  pub old : readSheetOn withShuffles s ≡ refused 7 place
+  pub new : ¬ (readSheet s ≡ refused 7 place)

@@ -1,8 +1,9 @@
 -- The terms on which a sheet is read: which versions there are and what each allows, what a caller allows, and the order of the faults at a range's name. The format, the reading and what is
--- well-formed are defined over any terms. Today's are one value; terms of before a change are another, so that what the change affects is a statement about two readings (`read-alike`, `other-versions-stay`).
+-- well-formed are defined over any terms. Today's are one value; terms of before a change are another, so that what the change affects is a statement about two readings
+-- (`read-alike`, `other-versions-stay`, `endless-alone-changes`).
 -- Assumes nothing.
 use mathlib.Core.Path.{_≡_}
-use mathlib.Core.Bool.{Bool, false, cond}
+use mathlib.Core.Bool.{Bool, false, cond, not}
 use Prim.Native.Nat.{ℕ, _<_, _≤_}
 use lib.Dec.{ltb}
 
@@ -47,9 +48,9 @@ base = record {
 abbrev pub firstShuffled : ℕ
 firstShuffled = 2
 
--- document 01's with change 1: "refusal 3 is for versions other than 1 and 2". No version has v = 0 yet
-abbrev pub today : Terms
-today = record {
+-- document 01's with change 1: "refusal 3 is for versions other than 1 and 2". No version has v = 0: these are the terms of before change 2
+abbrev pub withShuffles : Terms
+withShuffles = record {
   newest = 2;
   firstKind = base .firstKind;
   lastJoin = λ version. cond (ltb version firstShuffled) 1 3;
@@ -59,11 +60,26 @@ today = record {
   inOrder = base .inOrder;
 }
 
--- terms that let in no more than rules mean and fields hold: no join and no v that the meaning does not have, versions of 16 bits, rules for 16 of which there is room, and at a name the three faults
+-- document 02, change 2: "In version 2, v = 0 means that u or more occurrences are allowed, so at field v refusal 7 is not given for v = 0; u = 0 still meets it"
+abbrev pub firstEndless : ℕ
+firstEndless = 2
+
+-- with change 2
+abbrev pub today : Terms
+today = record {
+  newest = withShuffles .newest;
+  firstKind = withShuffles .firstKind;
+  lastJoin = withShuffles .lastJoin;
+  endless = λ version. not (ltb version firstEndless);
+  bytes = withShuffles .bytes;
+  mostRules = withShuffles .mostRules;
+  inOrder = withShuffles .inOrder;
+}
+
+-- terms that let in no more than rules mean and fields hold: no join that the meaning does not have, versions of 16 bits, rules for 16 of which there is room, and at a name the three faults
 pub record Covered (T : Terms) : Type 0 where
   pub versions : T .newest < 65536
   pub joins : (version : ℕ) → T .lastJoin version ≤ 3
-  pub ends : (version : ℕ) → T .endless version ≡ false
   pub rules : T .mostRules ≤ 16
   pub faultless : (above again misdirected : Bool) → T .inOrder above again misdirected ≡ 0 → (above ≡ false) × (again ≡ false) × (misdirected ≡ false)
   pub right : T .inOrder false false false ≡ 0

@@ -18,9 +18,9 @@ use Rattle.answers.specs.declared.Answer.{Answer}
 use Rattle.replies.specs.Replies.{wordOf}
 use Rattle.monitor.specs.Promise.{seen, valuesOf, verdictIn, inMemory, Observes, Freshes}
 
--- it rises with each call that is added or changed, and with the memory that a host lends
+-- it rises with each call that is added or changed, as opening is by the sheets that it reads, and with the memory that a host lends
 abbrev pub libraryVersion : ℕ
-libraryVersion = 4
+libraryVersion = 5
 
 -- ---- opening: the two arrays that a host lends
 

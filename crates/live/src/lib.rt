@@ -78,7 +78,7 @@ pub extern "C" fn guard4_taken(monitor: &Memory) -> u32
 
 // ---- versions
 
-const LIBRARY: u32 = 4;
+const LIBRARY: u32 = 5;
 
 const NEWEST_SHEET: u32 = 2;
 

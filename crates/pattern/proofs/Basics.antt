@@ -58,6 +58,11 @@ pub by-cond : {A : Type 0} (P : A → Type 0) (b : Bool) {x y : A} → P x → P
 by-cond P true h k = h
 by-cond P false h k = k
 
+-- or only where the test is passed
+pub by-test : {A : Type 0} (P : A → Type 0) (b : Bool) {x y : A} → (T b → P x) → P y → P (cond b x y)
+by-test P true h k = h tt
+by-test P false h k = k
+
 -- a test has one of two results
 pub test : (b : Bool) → T b ⊎ T (not b)
 test true = inl tt

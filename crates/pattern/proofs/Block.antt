@@ -19,7 +19,8 @@ use Rattle.pattern.proofs.Totals.{row, less, total-together, total-same
 
 -- fewer occurrences are not too many either
 pub fewer : (r : Range) {k l : ℕ} → k ≤ l → AtMost r l → AtMost r k
-fewer r h k = le-trans h k
+fewer r h (inl z) = inl z
+fewer r h (inr k) = inr (le-trans h k)
 
 abbrev pub Unique : List Range → Type 0
 Unique rs = (x y : Range) → In x rs → In y rs → x .name ≡ y .name → x ≡ y

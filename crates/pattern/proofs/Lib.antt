@@ -3,6 +3,8 @@ pub mod Moves
 pub mod Totals
 pub mod Block
 pub mod Shuffled
+pub mod Growing
+pub mod AtOnce
 pub mod Running
 pub mod Rounds
 pub mod Fragment
@@ -18,6 +20,8 @@ pub mod Numbering
 pub mod Places
 pub mod Status
 pub mod Tracks
+pub mod Endless
+pub mod Waiting
 pub mod Traces
 pub mod Oracle
 pub mod Agreement

@@ -1,20 +1,54 @@
 -- The fragments of a round by their numbers, as the model has them, and the stages of the plan: what the model computes of a number is what the plan says of the stage.
+-- A name of a rule is in one of its fragments alone (`same-fragment`).
 -- Assumes nothing.
 use mathlib.Core.Path.{_≡_, refl, sym, _∙_, ap}
+use mathlib.Core.Logic.{inl, inr}
 use mathlib.Core.Bool.{Bool, true, false, _&&_}
-use mathlib.Core.List.{List, [], _∷_, _++_, nil≢cons, append-nil, head-eq-of-cons-eq, tail-eq-of-cons-eq}
+use mathlib.Core.List.{List, [], _∷_, _++_, nil≢cons, append-assoc, append-nil, head-eq-of-cons-eq, tail-eq-of-cons-eq}
 use Prim.Native.Nat.{ℕ, zero, suc, _+_, _-_}
 use native.Mathlib.Omega.{arith}
 use lib.Dec.{leb, leb·suc-suc, leb·zero, leb·suc-zero}
 use lib.ListN.{length, getD, drop, length-append, length-drop}
 use borrow.Author.Tests.{le-leb, lt-leb}
-use Rattle.pattern.specs.Meaning.{Fragment}
+use Rattle.pattern.specs.Lists.{In, Distinct}
+use Rattle.pattern.specs.Meaning.{Range, Fragment, fragmentNames, orderingNames, kindNames, Kind, once, repeated, timed, Rule, namesOf}
 use Rattle.pattern.specs.Model.{triggerFragment, lastFragments, roundOf, noFragment, isOnce, fragmentAt, isLast, afterP}
+use Rattle.pattern.proofs.Basics.{in-left, in-right, distinct-right, distinct-apart}
 use Rattle.pattern.proofs.Rounds.{Stage, round, ended}
 use Rattle.pattern.proofs.Fragment.{X, Checked}
 use Rattle.pattern.proofs.Alive.{laws}
 use Rattle.pattern.proofs.Orderings.{stages, fragments}
 use Rattle.pattern.proofs.Rules.{CheckedRule, CheckedKind, once′, repeated′, timed′, kindOf, ruleOf, answering, endingOf, planOf}
+
+-- ---- a name of a rule is in one fragment of its round
+
+pub in-fragments : (fs : List Fragment) (f : Fragment) (m : ℕ) → In f fs → In m (fragmentNames f) → In m (orderingNames fs)
+in-fragments (g ∷ fs) f m (inl e) i = in-left m (fragmentNames g) (orderingNames fs) (rw e at i)
+in-fragments (g ∷ fs) f m (inr k) i = in-right m (fragmentNames g) (orderingNames fs) (in-fragments fs f m k i)
+
+pub same-fragment : (fs : List Fragment) → Distinct (orderingNames fs) → (f g : Fragment) → In f fs → In g fs → (m : ℕ) → In m (fragmentNames f) → In m (fragmentNames g) → f ≡ g
+same-fragment (h ∷ fs) d f g (inl e) (inl e′) m i k = e ∙ sym e′
+same-fragment (h ∷ fs) d f g (inl e) (inr j) m i k = absurd (distinct-apart m (fragmentNames h) (orderingNames fs) d (rw e at i) (in-fragments fs g m j k))
+same-fragment (h ∷ fs) d f g (inr j) (inl e) m i k = absurd (distinct-apart m (fragmentNames h) (orderingNames fs) d (rw e at k) (in-fragments fs f m j i))
+same-fragment (h ∷ fs) d f g (inr j) (inr j′) m i k = same-fragment fs (distinct-right (fragmentNames h) (orderingNames fs) d) f g j j′ m i k
+
+pub ordering-append : (a b : List Fragment) → orderingNames (a ++ b) ≡ orderingNames a ++ orderingNames b
+ordering-append [] b = refl
+ordering-append (f ∷ a) b = ap (λ (l : List ℕ). fragmentNames f ++ l) (ordering-append a b) ∙ sym (append-assoc (fragmentNames f) (orderingNames a) (orderingNames b))
+
+pub round-names : (r : Rule) → orderingNames (roundOf r) ≡ namesOf r
+round-names r = ordering-append (r .p) (lastFragments (r .kind)) ∙ ap (λ (l : List ℕ). orderingNames (r .p) ++ l) (last (r .kind))
+  where
+    last : (k : Kind) → orderingNames (lastFragments k) ≡ kindNames k
+    last (once i) = refl
+    last (repeated i) = refl
+    last (timed q t) = refl
+
+-- a fragment that has a range is one of the list
+pub numbered : (fs : List Fragment) (n : ℕ) (x : Range) → In x (getD fs n noFragment .ranges) → In (getD fs n noFragment) fs
+numbered [] n x i = absurd i
+numbered (f ∷ fs) zero x i = inl refl
+numbered (f ∷ fs) (suc n) x i = inr (numbered fs n x i)
 
 -- ---- the round by number
 

@@ -1,25 +1,41 @@
--- "Version 1 sheets read as before" (document 02, change 1): a rule whose fragments are joined all or any means what it meant (`plain-matches`, `plain-means`), so the same oracles are right (`plain-right`)
--- and every answer and verdict stays, the judge's (`plain-judged`) and the monitor's (`plain-agreement`). Joined so, a fragment's match has the old types, but for the list of blocks, where an induction says so.
+-- "Version 1 sheets read as before" (document 02): a rule whose fragments are joined all or any and whose ranges have an upper end means what it meant (`plain-matches`, `plain-means`), so the same
+-- oracles are right (`plain-right`) and every answer and verdict stays, the judge's (`plain-judged`) and the monitor's (`plain-agreement`). A fragment's match has the old types, but for a block, which
+-- v = 0 does not allow more of, and for the list of blocks, where an induction says so.
 -- Assumes nothing.
-use mathlib.Core.Path.{_≡_}
+use mathlib.Core.Path.{_≡_, refl}
 use mathlib.Core.Logic.{_⊎_, inl, inr, _↔_, Iff·rfl, Iff·not, Iff·and}
 use mathlib.Core.Bool.{false}
 use mathlib.Core.List.{List, [], _∷_, _++_}
-use Prim.Native.Nat.{ℕ, zero, suc}
-use Rattle.pattern.specs.Lists.{Each}
-use Rattle.pattern.specs.Meaning.{Event, names, Range, Join, all, any, mayBeLeftOut, shuffled, Fragment, Blocks, Chosen, MatchesFragment, MatchesOrdering, Kind, once, repeated, timed, Rule, TriggeredRound, TimedRound, Rounds, Released, MatchesKind, Matches, Status, broken, whole, open′, Broken, Judged}
+use Prim.Native.Nat.{ℕ, zero, suc, _≤_}
+use native.Mathlib.Omega.{arith}
+use lib.ListN.{replicate}
+use Rattle.pattern.specs.Lists.{In, Each}
+use Rattle.pattern.specs.Meaning.{Event, names, Range, AtMost, Block, Join, all, any, mayBeLeftOut, shuffled, Fragment, Blocks, Chosen, MatchesFragment, MatchesOrdering, Kind, once, repeated, timed, Rule, TriggeredRound, TimedRound, Rounds, Released, MatchesKind, Matches, Status, broken, whole, open′, Broken, Judged}
 use Rattle.pattern.specs.Judge.{Observation, traceOf, latest, EachJudged, Oracle, Right, nothing, judgeAnswers, judgeKeeps}
 use Rattle.pattern.specs.Agreement.{WellFormedRules}
 use Rattle.pattern.specs.Before
-use Rattle.pattern.specs.Before.{PlainFragment, PlainKind, PlainRule}
+use Rattle.pattern.specs.Before.{Bounded, PlainFragment, PlainKind, PlainRule}
+use Rattle.pattern.proofs.Basics.{each-in}
 use Rattle.pattern.proofs.Oracle.{one-judge}
 use Rattle.pattern.proofs.Agreement.{agreement}
 
 -- ---- a fragment
 
-blocks-in-a-row : (choice : List Range) (w : List ℕ) → Blocks false choice w ↔ Before.Blocks choice w
-blocks-in-a-row [] w = Iff·rfl
-blocks-in-a-row (r ∷ rs) w = (λ (a, b, e, k, bs). (a, b, e, k, blocks-in-a-row rs b .0 bs), λ (a, b, e, k, bs). (a, b, e, k, blocks-in-a-row rs b .1 bs))
+-- a range with an upper end has at most v occurrences
+at-most-v : (r : Range) → Bounded r → (k : ℕ) → AtMost r k → k ≤ r .v
+at-most-v r bounded k (inl z) = absurd (omega (arith, bounded, z))
+at-most-v r bounded k (inr h) = h
+
+-- so its blocks are what they were; nothing else in the meaning of a rule asks for v
+pub plain-block : (r : Range) → Bounded r → (w : List ℕ) → Block r w ↔ Before.Block r w
+plain-block r bounded w = (λ (k, e, m, q). (k, e, at-most-v r bounded k m, q), λ (k, e, m, q). (k, e, inr m, q))
+
+blocks-in-a-row : (choice : List Range) → ((r : Range) → In r choice → Bounded r) → (w : List ℕ) → Blocks false choice w ↔ Before.Blocks choice w
+blocks-in-a-row [] h w = Iff·rfl
+blocks-in-a-row (r ∷ rs) h w = (
+  λ (a, b, e, k, bs). (a, b, e, plain-block r (h r (inl refl)) a .0 k, blocks-in-a-row rs (λ x i. h x (inr i)) b .0 bs),
+  λ (a, b, e, k, bs). (a, b, e, plain-block r (h r (inl refl)) a .1 k, blocks-in-a-row rs (λ x i. h x (inr i)) b .1 bs),
+)
 
 -- what a join that is not shuffled allows, and how its blocks stand
 module _ (ranges choice : List Range) where
@@ -27,21 +43,21 @@ module _ (ranges choice : List Range) where
   plain-chosen j (inl e) = rw e Iff·rfl
   plain-chosen j (inr e) = rw e Iff·rfl
 
-  plain-blocks : (j : Join) → (j ≡ all) ⊎ (j ≡ any) → (w : List ℕ) → Blocks (shuffled j) choice w ↔ Before.Blocks choice w
-  plain-blocks j (inl e) w = rw e (blocks-in-a-row choice w)
-  plain-blocks j (inr e) w = rw e (blocks-in-a-row choice w)
+  plain-blocks : (j : Join) → (j ≡ all) ⊎ (j ≡ any) → ((r : Range) → In r choice → Bounded r) → (w : List ℕ) → Blocks (shuffled j) choice w ↔ Before.Blocks choice w
+  plain-blocks j (inl e) h w = rw e (blocks-in-a-row choice h w)
+  plain-blocks j (inr e) h w = rw e (blocks-in-a-row choice h w)
 
 pub plain-matches : (f : Fragment) → PlainFragment f → (w : List ℕ) → MatchesFragment f w ↔ Before.MatchesFragment f w
 plain-matches f p w = (
-  λ h. record { choice = h .choice; once = h .once; within = h .within; chosen = chosen (h .choice) .0 (h .chosen); blocks = blocks (h .choice) .0 (h .blocks) },
-  λ h. record { choice = h .choice; once = h .once; within = h .within; chosen = chosen (h .choice) .1 (h .chosen); blocks = blocks (h .choice) .1 (h .blocks) },
+  λ h. record { choice = h .choice; once = h .once; within = h .within; chosen = chosen (h .choice) .0 (h .chosen); blocks = blocks (h .choice) (h .within) .0 (h .blocks) },
+  λ h. record { choice = h .choice; once = h .once; within = h .within; chosen = chosen (h .choice) .1 (h .chosen); blocks = blocks (h .choice) (h .within) .1 (h .blocks) },
 )
   where
     chosen : (choice : List Range) → Chosen (mayBeLeftOut (f .join)) (f .ranges) choice ↔ Before.Chosen (f .join) (f .ranges) choice
-    chosen choice = plain-chosen (f .ranges) choice (f .join) p
+    chosen choice = plain-chosen (f .ranges) choice (f .join) (p .join)
 
-    blocks : (choice : List Range) → Blocks (shuffled (f .join)) choice w ↔ Before.Blocks choice w
-    blocks choice = plain-blocks (f .ranges) choice (f .join) p w
+    blocks : (choice : List Range) → ((r : Range) → In r choice → In r (f .ranges)) → Blocks (shuffled (f .join)) choice w ↔ Before.Blocks choice w
+    blocks choice within = plain-blocks (f .ranges) choice (f .join) (p .join) (λ r i. each-in Bounded (f .ranges) (p .ranges) r (within r i)) w
 
 -- ---- a rule
 

@@ -353,6 +353,10 @@ module _ (X : Recogniser) (L : Laws X) (π : Plan X) where
   run l p [] = p
   run l p (e ∷ es) = run l (go l p e) es
 
+  pub run-append : (l : Ending) (p : Place X) (a b : List Event) → run l p (a ++ b) ≡ run l (run l p a) b
+  run-append l p [] b = refl
+  run-append l p (e ∷ a) b = run-append l (go l p e) a b
+
   pub run-fits : (l : Ending) (p : Place X) (es : List Event) → Chain l round → Fits l p → Fits l (run l p es)
   run-fits l p [] c f = f
   run-fits l p (e ∷ es) c f = run-fits l (go l p e) es c (go-fits l p e c f)

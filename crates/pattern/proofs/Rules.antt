@@ -9,7 +9,7 @@ use native.Mathlib.Nat.{le-trans, le-refl}
 use native.Mathlib.Omega.{arith}
 use lib.Dec.{T, eqb, eqb→eq, eqb-refl, leb→le, le→leb, lit≤}
 use Rattle.pattern.specs.Lists.{In, Distinct, isIn}
-use Rattle.pattern.specs.Meaning.{Event, names, Range, fragmentNames, orderingNames, MatchesOrdering, Kind, once, repeated, timed, Rule, namesOf, On, TriggeredRound, TimedRound, lastTime, InTime, Released, MatchesKind, Matches, Rising}
+use Rattle.pattern.specs.Meaning.{AtMost, Event, names, Range, fragmentNames, orderingNames, MatchesOrdering, Kind, once, repeated, timed, Rule, namesOf, On, TriggeredRound, TimedRound, lastTime, InTime, Released, MatchesKind, Matches, Rising}
 use Rattle.pattern.specs.Model.{triggerFragment, inTime}
 use Rattle.pattern.proofs.Basics.{is-true, either, in-left, in-right, distinct-left, distinct-right, distinct-apart, isIn→, isIn←}
 use Rattle.pattern.proofs.Rounds.{Takes, Stage, Plan, Ending, again, release, fresh, repeat→, repeat←, OnNames, Triggered, After, To, BeginsLast, Apart, follows, Chain, round}
@@ -24,7 +24,7 @@ use Rattle.pattern.proofs.Orderings.{stages, fragments, rising-last, ri
 abbrev pub trigger : ℕ → Checked
 trigger i = record {
   fragment = triggerFragment i;
-  fine = record { distinct = (λ x. x, tt); some = λ r x. subst (λ (y : Range). 1 ≤ y .u) (sym (only r x)) (le-refl 1); order = λ r x. subst (λ (y : Range). y .u ≤ y .v) (sym (only r x)) (le-refl 1) };
+  fine = record { distinct = (λ x. x, tt); some = λ r x. subst (λ (y : Range). 1 ≤ y .u) (sym (only r x)) (le-refl 1); order = λ r x. subst (λ (y : Range). AtMost y (y .u)) (sym (only r x)) (inr (le-refl 1)) };
   count = (lit≤ tt, lit≤ tt);
 }
   where
@@ -75,7 +75,7 @@ trigger→ i e q = (
   e ∷ [],
   [],
   refl,
-  record { choice = triggerFragment i .ranges; once = (λ x. x, tt); within = λ r x. x; chosen = λ r x. x; blocks = (e .name ∷ [], [], refl, (1, lit≤ tt, lit≤ tt, ap (λ (n : ℕ). n ∷ []) q), refl) },
+  record { choice = triggerFragment i .ranges; once = (λ x. x, tt); within = λ r x. x; chosen = λ r x. x; blocks = (e .name ∷ [], [], refl, (1, lit≤ tt, inr (lit≤ tt), ap (λ (n : ℕ). n ∷ []) q), refl) },
   refl,
 )
 

@@ -7,12 +7,12 @@ use mathlib.Core.List.{List, [], _∷_}
 use Prim.Native.Nat.{ℕ, suc, _+_, _-_, _≤_}
 use native.Mathlib.Nat.{add-zero}
 use native.Mathlib.Omega.{arith}
-use lib.Dec.{T, eqb, eqb→eq, leb→le, ltb→lt, le→leb, lt→ltb}
+use lib.Dec.{T, eqb, ltb, eqb→eq, leb→le, ltb→lt, le→leb, lt→ltb}
 use borrow.Author.Tests.{eq-eqb, ne-eqb}
 use Rattle.pattern.specs.Meaning.{Range, Join, mayBeLeftOut, shuffled, Enough, AtMost}
 use Rattle.pattern.specs.Recogniser.{State, idle, unbegun, waiting, counting, done, error, Class, own, sibling, next, hasEnough, hasRoom, move, isIdle, isCounting, isError, nextCount, tally, Slot, within}
 use Rattle.pattern.specs.Totals.{total}
-use Rattle.pattern.proofs.Basics.{by-cond, is-true, same?}
+use Rattle.pattern.proofs.Basics.{either, either-l, either-r, by-cond, is-true, same?}
 use Rattle.pattern.proofs.Moves.{error-stays, error-not-idle}
 use Rattle.pattern.proofs.Totals.{front, zero-test}
 use Rattle.pattern.proofs.Block.{fewer, Asks}
@@ -34,10 +34,15 @@ pub within-sibling : (m : ℕ) (r : Range) → m ≢ r .name → within m r ≡ 
 within-sibling m r n = rw (ne-eqb m (r .name) n)
 
 pub room : (r : Range) (c : ℕ) → AtMost r (suc c) → hasRoom r c ≡ true
-room r c h = is-true (hasRoom r c) (lt→ltb c (r .v) h)
+room r c (inl z) = is-true (hasRoom r c) (either-l (eqb (r .v) 0) (ltb c (r .v)) (rw z tt))
+room r c (inr h) = is-true (hasRoom r c) (either-r (eqb (r .v) 0) (ltb c (r .v)) (lt→ltb c (r .v) h))
 
 pub roomy : (r : Range) (c : ℕ) → hasRoom r c ≡ true → AtMost r (suc c)
-roomy r c q = ltb→lt c (r .v) (rw q tt)
+roomy r c q = look (either (eqb (r .v) 0) (ltb c (r .v)) (rw q tt))
+  where
+    look : T (eqb (r .v) 0) ⊎ T (ltb c (r .v)) → AtMost r (suc c)
+    look (inl t) = inl (eqb→eq (r .v) 0 t)
+    look (inr t) = inr (ltb→lt c (r .v) t)
 
 pub enough : (r : Range) (c : ℕ) → Enough r c → hasEnough r c ≡ true
 enough r c h = is-true (hasEnough r c) (le→leb (r .u) c h)

@@ -48,10 +48,10 @@ module _ (c : CheckedRule) where
     of : (w : List Event) → To X laws (planOf c) (endingOf (c .kind)) here w → Matches (ruleOf c) (trace ++ w)
     of w h = matches← c (trace ++ w) (run← X laws (planOf c) (endingOf (c .kind)) fresh trace w h)
 
-    is-broken : T (isBroken X laws (planOf c) here latest) → Broken (ruleOf c) trace latest
+    pub is-broken : T (isBroken X laws (planOf c) here latest) → Broken (ruleOf c) trace latest
     is-broken b w k m = broken→ X laws (planOf c) (earlier ((ruleOf c) .kind)) (itself ((ruleOf c) .kind)) (endingOf (c .kind)) here latest w fits b (k .rising) (to w (k .rising) m)
 
-    not-broken : T (not (isBroken X laws (planOf c) here latest)) → ¬ Broken (ruleOf c) trace latest
+    pub not-broken : T (not (isBroken X laws (planOf c) here latest)) → ¬ Broken (ruleOf c) trace latest
     not-broken b k =
         let g = broken← X laws (planOf c) (earlier ((ruleOf c) .kind)) (itself ((ruleOf c) .kind)) (endingOf (c .kind)) here latest fits b in
         k (g .w) (record { on = on← c (g .w) (g .on); rising = g .rising }) (of (g .w) (g .goes))

@@ -97,6 +97,23 @@ module _ (n : ℕ) where
   row-after [] b z h = h
   row-after (m ∷ a) b z h = elim (same? m n) [ inl e ↦ absurd (omega (arith, total-own n m a e)) | inr d ↦ rw (ne-eqb m n d) (row-after a b (rw (ne-eqb m n d) at z) h) ]
 
+-- ---- an event once more, where it stands
+
+module _ (n m : ℕ) (v : List ℕ) where
+  front-again : (a : List ℕ) → T (front n ((a ++ (m ∷ [])) ++ v)) → T (front n ((a ++ (m ∷ [])) ++ (m ∷ v)))
+  front-again [] h = elim (same? m n) [ inl e ↦ rw (eq-eqb m n e) (rw (eq-eqb m n e) at h) | inr d ↦ rw (ne-eqb m n d) (rw (ne-eqb m n d) at h) ]
+  front-again (k ∷ a) h = elim (same? k n) [
+    | inl e ↦ rw (eq-eqb k n e) (front-again a (rw (eq-eqb k n e) at h))
+    | inr d ↦
+        let b : List ℕ = a ++ (m ∷ []) in
+        let z : total n (b ++ v) ≡ 0 = eqb→eq (total n (b ++ v)) 0 (rw (ne-eqb k n d) at h) in
+        rw (ne-eqb k n d) (zero-test (total n (b ++ (m ∷ v))) (omega (arith, total-append n b v, total-append n b (m ∷ v), total-append n a (m ∷ []), total-append n (m ∷ []) v)))
+  ]
+
+  pub row-again : (a : List ℕ) → T (row n ((a ++ (m ∷ [])) ++ v)) → T (row n ((a ++ (m ∷ [])) ++ (m ∷ v)))
+  row-again [] h = elim (same? m n) [ inl e ↦ rw (eq-eqb m n e) (rw (eq-eqb m n e) at h) | inr d ↦ rw (ne-eqb m n d) (rw (ne-eqb m n d) at h) ]
+  row-again (k ∷ a) h = elim (same? k n) [ inl e ↦ rw (eq-eqb k n e) (front-again a (rw (eq-eqb k n e) at h)) | inr d ↦ rw (ne-eqb k n d) (row-again a (rw (ne-eqb k n d) at h)) ]
+
 -- ---- a word without a name
 
 module _ (n : ℕ) where

@@ -20,7 +20,7 @@ use Rattle.pattern.proofs.Status.{fresh-rests, status-is}
 
 -- ---- a well-formed rule's fragments are checked
 
-check : (f : Fragment) → WellFormedFragment f → Distinct (fragmentNames f) → Checked
+abbrev pub check : (f : Fragment) → WellFormedFragment f → Distinct (fragmentNames f) → Checked
 check f w d = record {
   fragment = f;
   fine = record { distinct = d; some = λ r i. each-in WellFormedRange (f .ranges) (w .ranges) r i .some; order = λ r i. each-in WellFormedRange (f .ranges) (w .ranges) r i .order };
@@ -32,7 +32,7 @@ checks [] w d = []
 checks (f ∷ fs) w d = check f (w .0) (distinct-left (fragmentNames f) (orderingNames fs) d) ∷ checks fs (w .1) (distinct-right (fragmentNames f) (orderingNames fs) d)
 
 checks-are : (fs : List Fragment) (w : Each WellFormedFragment fs) (d : Distinct (orderingNames fs)) → fragments (checks fs w d) ≡ fs
-unfolding checks check
+unfolding checks
 checks-are [] w d = refl
 checks-are (f ∷ fs) w d = ap (λ (l : List Fragment). f ∷ l) (checks-are fs (w .1) (distinct-right (fragmentNames f) (orderingNames fs) d))
 
@@ -49,7 +49,7 @@ module _ (f : Fragment) (fs : List Fragment) (w : WellFormedOrdering (f ∷ fs))
   tail = checks fs (w .fragments .1) (distinct-right (fragmentNames f) (orderingNames fs) d)
 
   whole-is : fragments (head ∷ tail) ≡ f ∷ fs
-  unfolding head tail check
+  unfolding head tail
   whole-is = ap (λ (l : List Fragment). f ∷ l) (checks-are fs (w .fragments .1) (distinct-right (fragmentNames f) (orderingNames fs) d))
 
 checked-kind : (k : Kind) → WellFormedKind k → Distinct (kindNames k) → (ck : CheckedKind) × (kindOf ck ≡ k)
@@ -58,7 +58,7 @@ checked-kind (repeated i) w d = (repeated′ i, refl)
 checked-kind (timed [] t) w d = absurd (not-suc-le-zero (w .0 .count .0))
 checked-kind (timed (q ∷ qs) t) w d = (timed′ (head q qs (w .0) d) (tail q qs (w .0) d) t, ap (λ (l : List Fragment). timed l t) (whole-is q qs (w .0) d))
 
-checked : (k : Kind) (p : List Fragment) → WellFormed (record { kind = k; p = p }) → CheckedFor (record { kind = k; p = p })
+pub checked : (k : Kind) (p : List Fragment) → WellFormed (record { kind = k; p = p }) → CheckedFor (record { kind = k; p = p })
 checked k [] w = absurd (not-suc-le-zero (w .p .count .0))
 checked k (f ∷ fs) w =
     let d = distinct-left (orderingNames (f ∷ fs)) (kindNames k) (w .distinct) in
@@ -80,11 +80,6 @@ tracks-fresh r w = let c = checked (r .kind) (r .p) w in record { checked = c; d
 pub fresh-at-rest : (r : Rule) → WellFormed r → T (atRest r (fresh r))
 fresh-at-rest r w = let c = checked (r .kind) (r .p) w in subst (λ (x : Rule). T (atRest x (fresh x))) (c .is) (fresh-rests (c .rule))
 
-run-snoc : (c : CheckedRule) (p : R.Place X) (a : List Event) (e : Event)
-    → R.run X laws (planOf c) (endingOf (c .kind)) p (a ++ (e ∷ [])) ≡ R.go X laws (planOf c) (endingOf (c .kind)) (R.run X laws (planOf c) (endingOf (c .kind)) p a) e
-run-snoc c p [] e = refl
-run-snoc c p (x ∷ a) e = run-snoc c (R.go X laws (planOf c) (endingOf (c .kind)) p x) a e
-
 pub tracks-step : (r : Rule) (trace : List Event) (st : RuleState) (e : Event) → T (isIn (e .name) (namesOf r)) → Tracks r trace st → Tracks r (trace ++ (e ∷ [])) (step r st e)
 tracks-step r trace st e i t =
     let c = t .checked .rule in
@@ -93,7 +88,7 @@ tracks-step r trace st e i t =
     let h = keeps c st (placeAfter c trace) e (subst (λ (x : Rule). T (isIn (e .name) (namesOf x))) (sym z) i) (R.run-fits X laws (planOf c) (endingOf (c .kind)) R.fresh trace (chained c d) tt) (t .stands) in
     let there : R.Place X = R.go X laws (planOf c) (endingOf (c .kind)) (placeAfter c trace) e in
     let h′ : Stands c (step r st e) there = subst (λ (x : Rule). Stands c (step x st e) there) z h in
-    record { checked = t .checked; distinct = t .distinct; stands = subst (λ (x : R.Place X). Stands c (step r st e) x) (sym (run-snoc c R.fresh trace e)) h′ }
+    record { checked = t .checked; distinct = t .distinct; stands = subst (λ (x : R.Place X). Stands c (step r st e) x) (sym (R.run-append X laws (planOf c) (endingOf (c .kind)) R.fresh trace (e ∷ []))) h′ }
 
 pub tracks-status : (r : Rule) (trace : List Event) (st : RuleState) (latest : ℕ) → Rising 0 trace → lastTime 0 trace ≤ latest → Tracks r trace st → Judged r trace latest (statusAt r st latest)
 tracks-status r trace st latest rising past t =

@@ -1,20 +1,21 @@
 -- Well-formedness as a test that computes, for rules that are written out.
 -- Assumes nothing.
-use mathlib.Core.Bool.{Bool, true, not, _&&_}
+use mathlib.Core.Logic.{_⊎_, inl, inr}
+use mathlib.Core.Bool.{Bool, true, not, _&&_, _||_}
 use mathlib.Core.List.{List, [], _∷_}
 use Prim.Native.Nat.{ℕ}
-use lib.Dec.{T, leb, leb→le, T-not}
+use lib.Dec.{T, leb, eqb, leb→le, eqb→eq, T-not}
 use lib.ListN.{length}
 use Rattle.pattern.specs.Lists.{Distinct, Each, isIn, allOf}
-use Rattle.pattern.specs.Meaning.{Range, Fragment, Kind, once, repeated, timed, Rule, namesOf, Between, WellFormedRange, WellFormedFragment, WellFormedOrdering, WellFormedKind, WellFormed}
+use Rattle.pattern.specs.Meaning.{Range, Fragment, Kind, once, repeated, timed, Rule, namesOf, AtMost, Between, WellFormedRange, WellFormedFragment, WellFormedOrdering, WellFormedKind, WellFormed}
 use Rattle.pattern.specs.Agreement.{WellFormedRules}
-use Rattle.pattern.proofs.Basics.{both-l, both-r, isIn←}
+use Rattle.pattern.proofs.Basics.{both-l, both-r, either, isIn←}
 
 abbrev between : ℕ → ℕ → ℕ → Bool
 between a b n = leb a n && leb n b
 
 abbrev okRange : Range → Bool
-okRange r = leb (r .name) 63 && (leb 1 (r .u) && between (r .u) 65535 (r .v))
+okRange r = leb (r .name) 63 && (between 1 65535 (r .u) && ((eqb (r .v) 0 || leb (r .u) (r .v)) && leb (r .v) 65535))
 
 abbrev okFragment : Fragment → Bool
 okFragment f = between 1 8 (length (f .ranges)) && allOf okRange (f .ranges)
@@ -44,11 +45,23 @@ each→ ok P h (x ∷ xs) t = (h x (both-l (ok x) (allOf ok xs) t), each→ ok P
 range→ : (r : Range) → T (okRange r) → WellFormedRange r
 range→ r t =
     let named : Bool = leb (r .name) 63 in
-    let some : Bool = leb 1 (r .u) in
-    let bounds : Bool = between (r .u) 65535 (r .v) in
-    let t′ = both-r named (some && bounds) t in
-    let (o, f) = between→ (r .u) 65535 (r .v) (both-r some bounds t′) in
-    record { named = leb→le (r .name) 63 (both-l named (some && bounds) t); some = leb→le 1 (r .u) (both-l some bounds t′); order = o; few = f }
+    let least : Bool = between 1 65535 (r .u) in
+    let order : Bool = eqb (r .v) 0 || leb (r .u) (r .v) in
+    let few : Bool = leb (r .v) 65535 in
+    let t′ = both-r named (least && (order && few)) t in
+    let t″ = both-r least (order && few) t′ in
+    let (s, l) = between→ 1 65535 (r .u) (both-l least (order && few) t′) in
+    record {
+      named = leb→le (r .name) 63 (both-l named (least && (order && few)) t);
+      some = s;
+      small = l;
+      order = ends (either (eqb (r .v) 0) (leb (r .u) (r .v)) (both-l order few t″));
+      few = leb→le (r .v) 65535 (both-r order few t″);
+    }
+  where
+    ends : T (eqb (r .v) 0) ⊎ T (leb (r .u) (r .v)) → AtMost r (r .u)
+    ends (inl z) = inl (eqb→eq (r .v) 0 z)
+    ends (inr z) = inr (leb→le (r .u) (r .v) z)
 
 fragment→ : (f : Fragment) → T (okFragment f) → WellFormedFragment f
 fragment→ f t =

@@ -1,20 +1,26 @@
--- What a rule meant before document 02's change 1, in the words of that time, and who judged by it: a fragment was joined all or any. "Version 1 sheets read as before": that rules joined so have kept
--- this meaning, and with it every verdict, is proved in `proofs/Plain`. What does not speak of a fragment's match is `Meaning`'s, and so is every name.
+-- What a rule meant before document 02's changes 1 and 2, in the words of that time, and who judged by it: a fragment was joined all or any, and every range had an upper end. "Version 1 sheets read as
+-- before": that such rules have kept this meaning, and with it every verdict, is proved in `proofs/Plain`. What does not speak of a fragment's match is `Meaning`'s, and so is every name.
 -- Assumes nothing.
 use mathlib.Core.Path.{_≡_}
 use mathlib.Core.Logic.{_⊎_, _≢_}
 use mathlib.Core.List.{List, [], _∷_, _++_}
-use Prim.Native.Nat.{ℕ}
+use Prim.Native.Nat.{ℕ, _≤_}
+use lib.ListN.{replicate}
 use Rattle.pattern.specs.Lists.{In, Distinct, Each}
-use Rattle.pattern.specs.Meaning.{Event, names, Range, Block, Join, all, any, allShuffled, anyShuffled, Fragment, Kind, once, repeated, timed, Rule, On, InTime, Rounds, Continuation, Status, broken, whole, open′}
+use Rattle.pattern.specs.Meaning.{Event, names, Range, Join, all, any, allShuffled, anyShuffled, Fragment, Kind, once, repeated, timed, Rule, On, InTime, Rounds, Continuation, Status, broken, whole, open′}
 use Rattle.pattern.specs.Judge.{Observation, traceOf, latest, NeverFalls, Oracle}
 use Rattle.pattern.specs.Agreement.{Agrees}
 
 -- ---- the rules of that time
 
+-- "1 ≤ u ≤ v": v was not 0
+abbrev pub Bounded : Range → Type 0
+Bounded r = 1 ≤ r .v
+
 -- "join (0 all, 1 any)"
-abbrev pub PlainFragment : Fragment → Type 0
-PlainFragment f = (f .join ≡ all) ⊎ (f .join ≡ any)
+pub record PlainFragment (f : Fragment) : Type 0 where
+  pub join : (f .join ≡ all) ⊎ (f .join ≡ any)
+  pub ranges : Each Bounded (f .ranges)
 
 abbrev pub PlainKind : Kind → Type 0
 PlainKind (once i) = Unit {0}
@@ -26,6 +32,10 @@ pub record PlainRule (r : Rule) : Type 0 where
   pub kind : PlainKind (r .kind)
 
 -- ---- their meaning
+
+-- "n occurs k times in a row, u ≤ k ≤ v": a block of the range
+abbrev pub Block : Range → List ℕ → Type 0
+Block r w = (k : ℕ) × (r .u ≤ k) × (k ≤ r .v) × (w ≡ replicate k (r .name))
 
 -- one block of each range of the list, concatenated in the list's order
 abbrev pub Blocks : List Range → List ℕ → Type 0

@@ -7,4 +7,5 @@ pub mod Recogniser
 pub mod Model
 pub mod Agreement
 pub mod Before
+pub mod Endless
 pub mod Traces

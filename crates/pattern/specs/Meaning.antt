@@ -19,20 +19,20 @@ names (e ∷ es) = e .name ∷ names es
 
 -- ---- range
 
--- n[u,v]
+-- n[u,v]; of document 02, change 2: "v = 0 means that u or more occurrences are allowed"
 pub record Range : Type 0 where
   pub name : ℕ
   pub u : ℕ
   pub v : ℕ
 
--- k occurrences are enough; k occurrences are not too many
+-- k occurrences are enough; k occurrences are not too many, as none are where v is 0
 abbrev pub Enough : Range → ℕ → Type 0
 Enough r k = r .u ≤ k
 
 abbrev pub AtMost : Range → ℕ → Type 0
-AtMost r k = k ≤ r .v
+AtMost r k = (r .v ≡ 0) ⊎ (k ≤ r .v)
 
--- "n occurs k times in a row, u ≤ k ≤ v": a block of the range
+-- "n occurs k times in a row, u ≤ k ≤ v", or u ≤ k where v is 0: a block of the range
 abbrev pub Block : Range → List ℕ → Type 0
 Block r w = (k : ℕ) × Enough r k × AtMost r k × (w ≡ replicate k (r .name))
 
@@ -204,11 +204,12 @@ module _ (r : Rule) (trace : List Event) (latest : ℕ) where
 abbrev pub Between : ℕ → ℕ → ℕ → Type 0
 Between a b n = (a ≤ n) × (n ≤ b)
 
--- "1 ≤ u ≤ v ≤ 65535"; "a name is a number 0 to 63"
+-- "1 ≤ u ≤ v ≤ 65535", or v = 0, which does not bound u; "a name is a number 0 to 63"
 pub record WellFormedRange (r : Range) : Type 0 where
   pub named : r .name ≤ 63
   pub some : 1 ≤ r .u
-  pub order : r .u ≤ r .v
+  pub small : r .u ≤ 65535
+  pub order : AtMost r (r .u)
   pub few : r .v ≤ 65535
 
 -- "1 to 8 ranges"

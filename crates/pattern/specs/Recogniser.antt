@@ -1,6 +1,6 @@
 -- The recogniser of a range (document 01, "The recogniser of a range"), and the recognisers of a fragment's ranges side by side: eight states and eight counts.
 -- Assumes nothing.
-use mathlib.Core.Bool.{Bool, true, false, cond}
+use mathlib.Core.Bool.{Bool, true, false, cond, _||_}
 use mathlib.Core.List.{List, [], _∷_}
 use Prim.Native.Nat.{ℕ, zero, suc}
 use lib.Dec.{leb, ltb, eqb}
@@ -26,12 +26,12 @@ stateNumber error = 5
 pub data Class : Type 0 where
   own sibling next other : Class
 
--- count ≥ u; count < v, "can this range take one more"; a range that did not occur may be left out
+-- count ≥ u; count < v, and where v is 0 always: "can this range take one more"
 abbrev pub hasEnough : Range → ℕ → Bool
 hasEnough r count = leb (r .u) count
 
 abbrev pub hasRoom : Range → ℕ → Bool
-hasRoom r count = ltb count (r .v)
+hasRoom r count = eqb (r .v) 0 || ltb count (r .v)
 
 -- the table of moves
 abbrev pub move : Join → Range → ℕ → State → Class → State

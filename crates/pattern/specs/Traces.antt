@@ -162,3 +162,58 @@ shuffledRows =
     ∷ row onlyW (event 0 0 ∷ event 1 0 ∷ event 0 0 ∷ event 1 0 ∷ event 4 0 ∷ event 3 0 ∷ event 4 0 ∷ event 2 0 ∷ []) 8 allWhole
     ∷ row onlyW (event 0 0 ∷ event 1 0 ∷ event 0 0 ∷ event 1 0 ∷ event 4 0 ∷ event 3 0 ∷ event 2 0 ∷ []) 7 (brokenNow 7)
     ∷ []
+
+-- ---- document 02, change 2: ranges without an upper end
+
+-- E: kind 2, P = 0[2,0], Q = 9[1,2], t = 10
+abbrev pub E : Rule
+E = record { kind = timed (fragment all (range 9 1 2 ∷ []) ∷ []) 10; p = fragment all (range 0 2 0 ∷ []) ∷ [] }
+
+-- F: kind 2, P = {0[1,0], 1[1,1]} all, Q = 9[1,0], t = 10; G: the same with P shuffled
+abbrev pub FG : Join → Rule
+FG j = record { kind = timed (fragment all (range 9 1 0 ∷ []) ∷ []) 10; p = fragment j (range 0 1 0 ∷ range 1 1 1 ∷ []) ∷ [] }
+
+-- H: kind 1, {0[2,0]} all, then {1[1,0], 3[2,2]} any, shuffled, before 2
+abbrev pub H : Rule
+H = record { kind = repeated 2; p = fragment all (range 0 2 0 ∷ []) ∷ fragment anyShuffled (range 1 1 0 ∷ range 3 2 2 ∷ []) ∷ [] }
+
+abbrev pub onlyE : List Rule
+onlyE = E ∷ []
+
+abbrev pub onlyF : List Rule
+onlyF = FG all ∷ []
+
+abbrev pub onlyG : List Rule
+onlyG = FG allShuffled ∷ []
+
+abbrev pub onlyH : List Rule
+onlyH = H ∷ []
+
+abbrev pub endlessRows : List Row
+endlessRows =
+    -- "u or more occurrences": below u the next fragment may not begin, and from u on there is no event too many
+    row onlyE (event 0 0 ∷ event 9 0 ∷ []) 2 (brokenNow 2)
+    ∷ row onlyE (event 0 0 ∷ event 0 0 ∷ event 9 10 ∷ []) 3 allWhole
+    ∷ row onlyE (event 0 0 ∷ event 0 0 ∷ event 0 0 ∷ event 0 0 ∷ event 0 0 ∷ event 9 10 ∷ []) 6 allWhole
+    -- "a finished P whose last event is on such a range can grow": the deadline does not run yet
+    ∷ row onlyE (event 0 0 ∷ event 0 0 ∷ event 0 0 ∷ event 0 0 ∷ clock 99 ∷ []) 5 isOpen
+    -- and once Q comes, it is held to the end of P, which is P's last event
+    ∷ row onlyE (event 0 0 ∷ event 0 0 ∷ event 0 50 ∷ event 9 60 ∷ []) 4 allWhole
+    ∷ row onlyE (event 0 0 ∷ event 0 0 ∷ event 0 50 ∷ event 9 61 ∷ []) 4 (brokenNow 4)
+    -- "until the next fragment begins"
+    ∷ row onlyE (event 0 0 ∷ event 0 0 ∷ event 9 0 ∷ event 9 0 ∷ event 9 0 ∷ []) 5 (brokenNow 5)
+    ∷ row onlyH (event 0 0 ∷ event 0 0 ∷ event 1 0 ∷ event 0 0 ∷ []) 4 (brokenNow 4)
+    -- "or, in a fragment that isn't shuffled, a sibling closes its block": then neither it nor P can grow
+    ∷ row onlyF (event 0 0 ∷ event 0 0 ∷ event 1 0 ∷ event 0 0 ∷ []) 4 (brokenNow 4)
+    ∷ row onlyF (event 0 0 ∷ event 0 0 ∷ event 1 0 ∷ clock 11 ∷ []) 4 (brokenNow 4)
+    ∷ row onlyF (event 1 0 ∷ event 0 0 ∷ event 0 0 ∷ clock 99 ∷ []) 4 isOpen
+    -- shuffled, it goes on after a sibling, and P can grow whatever came last
+    ∷ row onlyG (event 0 0 ∷ event 0 0 ∷ event 1 0 ∷ event 0 0 ∷ event 9 10 ∷ []) 5 allWhole
+    ∷ row onlyG (event 0 0 ∷ event 0 0 ∷ event 1 0 ∷ clock 99 ∷ []) 4 isOpen
+    ∷ row onlyH (event 0 0 ∷ event 0 0 ∷ event 1 0 ∷ event 3 0 ∷ event 1 0 ∷ event 3 0 ∷ event 1 0 ∷ event 2 0 ∷ []) 8 allWhole
+    ∷ row onlyH (event 0 0 ∷ event 0 0 ∷ event 1 0 ∷ event 3 0 ∷ event 1 0 ∷ event 2 0 ∷ []) 6 (brokenNow 6)
+    -- a complete Q with such a range is whole: the clock alone does not break it, more of it after the limit does
+    ∷ row onlyF (event 1 0 ∷ event 0 0 ∷ event 9 1 ∷ event 9 2 ∷ event 9 10 ∷ clock 99 ∷ []) 6 allWhole
+    ∷ row onlyF (event 1 0 ∷ event 0 0 ∷ event 9 1 ∷ event 9 2 ∷ event 9 10 ∷ clock 99 ∷ event 9 99 ∷ []) 7 (brokenNow 7)
+    ∷ row onlyF (event 1 0 ∷ event 0 0 ∷ event 9 1 ∷ event 9 2 ∷ event 9 10 ∷ clock 99 ∷ event 0 99 ∷ []) 7 isOpen
+    ∷ []

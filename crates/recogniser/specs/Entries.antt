@@ -8,7 +8,7 @@ use Rattle.pattern.specs.Meaning.{Range, Join, mayBeLeftOut, shuffled}
 use Rattle.pattern.specs.Recogniser.{State, idle, counting, done, error, hasEnough, hasRoom, move}
 use Rattle.recogniser.specs.Numbers.{stateOf, classOf}
 
--- an entry up to 5 is a state; "3 if count < v, else 5" is 6; 3 if shuffled, else 4 if count ≥ u, else 5, is 7; "0 if count ≥ u, else 5" is 8; and any other, 9 in the table, is
+-- an entry up to 5 is a state; "3 if count < v, else 5", and where v is 0 always 3, is 6; 3 if shuffled, else 4 if count ≥ u, else 5, is 7; "0 if count ≥ u, else 5" is 8; and any other, 9 in the table, is
 -- 0 if the range may be left out, else 5. Document 01 says 7 and 9 of the joins 0 and 1: "4 if count ≥ u, else 5", "0 if any, 5 if all"
 abbrev pub entryState : Join → Range → ℕ → ℕ → State
 entryState j r count entry =

@@ -1,13 +1,14 @@
-// The recogniser of a range (document 01): one move, in document 01's numbers. Every number stands for a state, a class or a join, so nothing is asked of them.
+// The recogniser of a range (document 01): one move, in document 01's numbers, and the count one event later. Every number stands for a state, a class or a join, so nothing is asked of them.
 // `next_state` is what a caller asks: the entry of the table of moves for a state and a class, and the state that this entry says.
 ghost use mathlib.Core.Path.{_≡_};
-ghost use mathlib.Core.Bool.{cond};
-ghost use Prim.Native.Nat.{_≤_, min};
-ghost use lib.Dec.{leb, ltb};
+ghost use mathlib.Core.Bool.{cond, _||_};
+ghost use Prim.Native.Nat.{_+_, _≤_, min};
+ghost use lib.Dec.{leb, ltb, eqb};
 ghost use Rattle.pattern.specs.Meaning.{mayBeLeftOut, shuffled};
 ghost use Rattle.pattern.specs.Recogniser.{stateNumber};
 ghost use Rattle.recogniser.specs.Numbers.{joinOf, bounds, nextState};
 ghost use Rattle.recogniser.specs.Entries.{entryState, IsEntry};
+ghost use Rattle.recogniser.specs.Counts.{saturated};
 
 // "0 idle, 1 fragment not begun, 2 waiting while a sibling has begun, 3 counting, 4 done, 5 error".
 const IDLE: u8 = 0;
@@ -25,7 +26,7 @@ const ERROR: u8 = 5;
 // The last class: own, sibling, next and other are 0 to 3.
 const OTHER: u8 = 3;
 
-// Entries of the table that are no state but a move with a condition. "3 if count < v, else 5":
+// Entries of the table that are no state but a move with a condition. "3 if count < v, else 5", and where v is 0 always 3:
 const COUNTING_IF_ROOM: u8 = 6;
 
 // 3 if shuffled, else 4 if count ≥ u, else 5:
@@ -51,7 +52,7 @@ const MOVES: [u8; 24] = [
     WAITING,
     IDLE_IF_LEFT_OUT,
     ERROR,
-    COUNTING_IF_ROOM, // from 3 counting | 3 if count < v, else 5 | 3 if shuffled, else 4 if count ≥ u, else 5 | 0 if count ≥ u, else 5 | 5
+    COUNTING_IF_ROOM, // from 3 counting | 3 if count < v or v = 0, else 5 | 3 if shuffled, else 4 if count ≥ u, else 5 | 0 if count ≥ u, else 5 | 5
     CLOSED_BY_SIBLING,
     IDLE_IF_ENOUGH,
     ERROR,
@@ -116,11 +117,11 @@ fn has_enough(count: u16, u: u16) -> bool
     u <= count
 }
 
-// "count < v".
+// "count < v", and where v is 0 always: "v = 0 means that u or more occurrences are allowed".
 fn has_room(count: u16, v: u16) -> bool
-    ensures { λ r. ⌜ r ≡ ltb count v ⌝ }
+    ensures { λ r. ⌜ r ≡ (eqb v 0 || ltb count v) ⌝ }
 {
-    count < v
+    (v == 0) | (count < v)
 }
 
 // One state where a condition holds, another where it does not.
@@ -151,4 +152,20 @@ pub fn next_state(state: u8, class: u8, join: u8, count: u16, u: u16, v: u16) ->
     ensures { λ r. ⌜ r ≡ nextState state class join count u v ⌝ }
 {
     decided(entry(state, class), join, count, u, v)
+}
+
+// ---- the count
+
+// No u and no v of a sheet is above it, and no number of sixteen bits.
+const MOST_COUNT: u16 = 65535;
+
+// What is stored of a count, so many events later. "Counts may stop rising once u is reached": this one stops where it has reached every u that there is, so that it asks for no bound.
+// In this form the compiler has one instruction for it, of eight counts at once too.
+pub fn saturating_sum(count: u16, more: u16) -> u16
+    ensures { λ r. ⌜ r ≡ saturated (count + more) ⌝ }
+{
+    if MOST_COUNT - more < count {
+        return MOST_COUNT;
+    }
+    count + more
 }

@@ -2,20 +2,22 @@
 -- Assumes nothing.
 use mathlib.Core.Path.{_≡_, refl, sym, _∙_, ap, ap₂}
 use mathlib.Core.Bool.{Bool, true, false, cond, _&&_, and-false}
-use mathlib.Core.List.{List}
+use mathlib.Core.List.{List, map}
 use Prim.Native.Nat.{ℕ, zero, suc, _≤_, _<_}
 use native.Mathlib.Nat.{mod-eq-of-lt}
-use native.Mathlib.Numerals.{add-one}
 use native.Mathlib.Omega.{arith}
 use lib.Dec.{ltb, eqb}
-use lib.ListN.{length, getD, set, replicate}
+use lib.ListN.{length, getD, set, replicate, List·getD-map}
 use lib.Seq.{set-getD}
 use borrow.Author.Tests.{le-leb, lt-leb, ltb-true, eqb-true}
 use Rattle.pattern.specs.Meaning.{Join, AtMost, Rule}
-use Rattle.pattern.specs.Recogniser.{idle, counting, error, own, next, hasRoom, move, isError, nextCount}
+use Rattle.pattern.specs.Recogniser.{counting, error, Class, own, next, hasRoom, move, isError, nextCount}
 use Rattle.pattern.specs.Model.{roundOf, fragmentAt}
+use Rattle.pattern.proofs.Block.{fewer}
 use Rattle.pattern.proofs.Running.{roomy}
 use Rattle.recogniser.specs.Numbers.{stateOf}
+use Rattle.recogniser.specs.Counts.{saturated}
+use Rattle.recogniser.proofs.Counts.{one-more, saturated-zero, same-move}
 use Rattle.layout.specs.Pages.{rangeAt}
 use Rattle.masks.specs.Masks.{maskN}
 use Rattle.rule_state.specs.declared.RuleState.{RuleState}
@@ -37,6 +39,13 @@ zero-at zero k = refl
 zero-at (suc n) zero = refl
 zero-at (suc n) (suc k) = zero-at n k
 
+-- what is stored of the counts, at a place
+stored-at : (cs : List ℕ) (k : ℕ) → getD (map saturated cs) k 0 ≡ saturated (getD cs k 0)
+stored-at cs k = ap (getD (map saturated cs) k) (sym saturated-zero) ∙ List·getD-map saturated cs k 0
+
+zeros-stored : zeros ≡ map saturated zeros
+zeros-stored = ap (replicate 8) (sym saturated-zero)
+
 module _ {rule : Rule} (sound : Sound rule) {n : ℕ} (hn : n < length (roundOf rule)) where
   abbrev size : ℕ
   size = length (fragmentAt rule n .ranges)
@@ -48,12 +57,8 @@ module _ {rule : Rule} (sound : Sound rule) {n : ℕ} (hn : n < length (roundOf 
   few = sound .count n hn .1
 
   -- a range takes one event at least
-  one : (i : ℕ) → i < size → 1 ≤ rangeAt rule n i .v
-  one i hi =
-      let r = range-in (fragmentAt rule n .ranges) i hi in
-      let a : 1 ≤ rangeAt rule n i .u = sound .fine n hn .some (rangeAt rule n i) r in
-      let b : rangeAt rule n i .u ≤ rangeAt rule n i .v = sound .fine n hn .order (rangeAt rule n i) r in
-      omega (arith, a, b)
+  one : (i : ℕ) → i < size → AtMost (rangeAt rule n i) 1
+  one i hi = let r = range-in (fragmentAt rule n .ranges) i hi in fewer (rangeAt rule n i) (sound .fine n hn .some (rangeAt rule n i) r) (sound .fine n hn .order (rangeAt rule n i) r)
 
   -- ---- before the first event
 
@@ -82,42 +87,40 @@ module _ {rule : Rule} (sound : Sound rule) {n : ℕ} (hn : n < length (roundOf 
     pub opened-past : (k : ℕ) → size ≤ k → k < 8 → getD (openedOf cell st .states) k 0 ≡ 0
     opened-past k l g = let m : lessIn cell < k = omega (arith, c .less, l) in ap (λ (x : List ℕ). getD x k 0) opened-states ∙ waiting-at cell k g ∙ rw (lt-leb k (lessIn cell) m)
 
-    pub opened-count : (k : ℕ) → getD (openedOf cell st .counts) k 0 ≡ 0
-    opened-count k = ap (λ (l : List ℕ). getD l k 0) opened-counts ∙ zero-at 8 k
-
-    lacking-is : openedOf cell st .lacking ≡ maskN (wouldErr rule n (openedOf cell st) next) 8
+    lacking-is : openedOf cell st .lacking ≡ maskN (wouldErr rule n zeros (openedOf cell st) next) 8
     unfolding openedOf
     lacking-is = look (eqb (movedBy cell 2 2 0) 5) refl
       where
         -- the column at a place
-        at : (b : Bool) → eqb (movedBy cell 2 2 0) 5 ≡ b → (k : ℕ) → wouldErr rule n (openedOf cell st) next k ≡ (ltb k (size) && b)
+        at : (b : Bool) → eqb (movedBy cell 2 2 0) 5 ≡ b → (k : ℕ) → wouldErr rule n zeros (openedOf cell st) next k ≡ (ltb k (size) && b)
         at b q k = go (ltb k (size)) refl
           where
-            go : (a : Bool) → ltb k (size) ≡ a → (a && errsTo rule n (openedOf cell st) next k) ≡ (a && b)
+            go : (a : Bool) → ltb k (size) ≡ a → (a && errsTo rule n zeros (openedOf cell st) next k) ≡ (a && b)
             go true z = rw (opened-at k (ltb-true k (size) z)) (sym (needed-is c k) ∙ q)
             go false z = refl
 
-        look : (b : Bool) → eqb (movedBy cell 2 2 0) 5 ≡ b → cond b (rangesOf cell) 0 ≡ maskN (wouldErr rule n (openedOf cell st) next) 8
-        look true q = ranges-are cell (size) (c .less) ∙ same-set (λ k. ltb k (size)) (wouldErr rule n (openedOf cell st) next) (λ k g. sym (at true q k ∙ keep (ltb k (size))))
+        look : (b : Bool) → eqb (movedBy cell 2 2 0) 5 ≡ b → cond b (rangesOf cell) 0 ≡ maskN (wouldErr rule n zeros (openedOf cell st) next) 8
+        look true q = ranges-are cell (size) (c .less) ∙ same-set (λ k. ltb k (size)) (wouldErr rule n zeros (openedOf cell st) next) (λ k g. sym (at true q k ∙ keep (ltb k (size))))
           where
             keep : (a : Bool) → (a && true) ≡ a
             keep true = refl
             keep false = refl
-        look false q = sym (none-in (wouldErr rule n (openedOf cell st) next) (λ k g. at false q k ∙ and-false (ltb k (size))))
+        look false q = sym (none-in (wouldErr rule n zeros (openedOf cell st) next) (λ k g. at false q k ∙ and-false (ltb k (size))))
 
-    full-none : openedOf cell st .full ≡ maskN (wouldErr rule n (openedOf cell st) own) 8
+    full-none : openedOf cell st .full ≡ maskN (wouldErr rule n zeros (openedOf cell st) own) 8
     unfolding openedOf
-    full-none = sym (none-in (wouldErr rule n (openedOf cell st) own) (λ k g. at k (ltb k (size)) refl))
+    full-none = sym (none-in (wouldErr rule n zeros (openedOf cell st) own) (λ k g. at k (ltb k (size)) refl))
       where
-        at : (k : ℕ) (a : Bool) → ltb k (size) ≡ a → (a && errsTo rule n (openedOf cell st) own k) ≡ false
+        at : (k : ℕ) (a : Bool) → ltb k (size) ≡ a → (a && errsTo rule n zeros (openedOf cell st) own k) ≡ false
         at k true z = rw (opened-at k (ltb-true k (size) z))
         at k false z = refl
 
-    pub opened-ranges : Ranges rule n (openedOf cell st)
+    pub opened-ranges : Ranges rule n zeros (openedOf cell st)
     opened-ranges = record {
       eightStates = ap length opened-states ∙ waiting-length cell;
-      eightCounts = ap length opened-counts;
-      each = λ k g. waits (opened-at k g) (opened-count k);
+      eightCounts = refl;
+      stored = opened-counts ∙ zeros-stored;
+      each = λ k g. waits (opened-at k g) (zero-at 8 k);
       idle = opened-past;
       lacking = lacking-is;
       full = full-none;
@@ -141,29 +144,33 @@ module _ {rule : Rule} (sound : Sound rule) {n : ℕ} (hn : n < length (roundOf 
       go false q x = clash (sym x)
   takes i state count hi (closed z y) e = clash (sym (rw z at e))
 
-  module _ {i cell : ℕ} (c : Cell rule n i cell) (hi : i < size) (st : RuleState) (now : ℕ) where
-    abbrev k₀ : ℕ
-    k₀ = getD (st .counts) i 0
+  module _ {i cell : ℕ} (c : Cell rule n i cell) (cs : List ℕ) (st : RuleState) (stored : st .counts ≡ map saturated cs) (now : ℕ) where
+    abbrev k₁ : ℕ
+    k₁ = suc (getD cs i 0)
 
-    count-is : AtMost (rangeAt rule n i) (suc (getD (st .counts) i 0)) → countOf cell st ≡ suc (getD (st .counts) i 0)
-    count-is h = rw (c .index) (mod-eq-of-lt (omega (arith, h, c .v)) ∙ add-one (getD (st .counts) i 0))
+    count-is : countOf cell st ≡ saturated k₁
+    count-is = rw (c .index, stored, stored-at cs i) (one-more (getD cs i 0))
 
-    pub taken-replaced : AtMost (rangeAt rule n i) (suc (getD (st .counts) i 0)) → Replaced rule n st i 3 (suc (getD (st .counts) i 0)) (takenState cell st now)
-    taken-replaced h = record {
+    -- what is stored of the count is to the tests what the count is: a cell's bounds are of sixteen bits
+    stored-move : (class : Class) → isError (move (fragmentAt rule n .join) (rangeAt rule n i) (saturated k₁) counting class) ≡ isError (move (fragmentAt rule n .join) (rangeAt rule n i) k₁ counting class)
+    stored-move class = ap isError (same-move (rangeAt rule n i) (omega (arith, c .u)) (omega (arith, c .v)) k₁ (fragmentAt rule n .join) counting class)
+
+    pub taken-replaced : Replaced rule n st i 3 (suc (getD cs i 0)) (takenState cell st now)
+    taken-replaced = record {
       states = ap₂ (set (st .states)) (c .index) (counts-now cell (countOf cell st));
-      counts = ap₂ (set (st .counts)) (c .index) (count-is h);
-      lacking = ap₂ (putOf (st .lacking)) (c .index) (ap (errsOf cell 2) (count-is h) ∙ lacks-is c (suc (getD (st .counts) i 0)));
-      full = ap₂ (putOf (st .full)) (c .index) (ap (errsOf cell 0) (count-is h) ∙ full-is c (suc (getD (st .counts) i 0)));
+      counts = ap₂ (set (st .counts)) (c .index) count-is;
+      lacking = ap₂ (putOf (st .lacking)) (c .index) (ap (errsOf cell 2) count-is ∙ lacks-is c (saturated k₁) ∙ stored-move next);
+      full = ap₂ (putOf (st .full)) (c .index) (ap (errsOf cell 0) count-is ∙ full-is c (saturated k₁) ∙ stored-move own);
     }
 
   -- ---- a sibling's event closes a block
 
-  pub closed-replaced : {st : RuleState} → Ranges rule n st → st .current < size → wouldErr rule n st next (st .current) ≡ false
-      → Replaced rule n st (st .current) 4 (getD (st .counts) (st .current) 0) (closedOf st)
+  pub closed-replaced : {cs : List ℕ} {st : RuleState} → Ranges rule n cs st → st .current < size → wouldErr rule n cs st next (st .current) ≡ false
+      → Replaced rule n st (st .current) 4 (getD cs (st .current) 0) (closedOf st)
   unfolding closedOf
-  closed-replaced {st} w hj e = record {
+  closed-replaced {cs} {st} w hj e = record {
     states = rw (mod-eq-of-lt small, done-now);
-    counts = sym (set-getD (st .counts) (st .current) 0);
+    counts = sym (ap (set (st .counts) (st .current)) (sym count-at) ∙ set-getD (st .counts) (st .current) 0);
     lacking = w .lacking ∙ sym (ap (λ (x : ℕ). putOf x (st .current) false) (w .lacking) ∙ put-is lacks lacks (st .current) false (λ k g. stays k (eqb k (st .current)) refl));
     full = rw (mod-eq-of-lt small, done-full);
   }
@@ -171,9 +178,12 @@ module _ {rule : Rule} (sound : Sound rule) {n : ℕ} (hn : n < length (roundOf 
       small : st .current < 8
       small = omega (arith, hj, few)
 
-      lacks : ℕ → Bool
-      lacks = wouldErr rule n st next
+      count-at : getD (st .counts) (st .current) 0 ≡ saturated (getD cs (st .current) 0)
+      count-at = ap (λ (l : List ℕ). getD l (st .current) 0) (w .stored) ∙ stored-at cs (st .current)
 
-      stays : (k : ℕ) (b : Bool) → eqb k (st .current) ≡ b → cond b false (wouldErr rule n st next k) ≡ wouldErr rule n st next k
-      stays k true q = sym (ap (wouldErr rule n st next) (eqb-true k (st .current) q) ∙ e)
+      lacks : ℕ → Bool
+      lacks = wouldErr rule n cs st next
+
+      stays : (k : ℕ) (b : Bool) → eqb k (st .current) ≡ b → cond b false (wouldErr rule n cs st next k) ≡ wouldErr rule n cs st next k
+      stays k true q = sym (ap (wouldErr rule n cs st next) (eqb-true k (st .current) q) ∙ e)
       stays k false q = refl

@@ -1,6 +1,6 @@
 -- A fragment that has begun: its slots are what the numbers say, place by place; nothing lacks exactly where the fragment is complete, and every range is full exactly where it cannot grow.
 -- Assumes nothing.
-use mathlib.Core.Path.{_≡_, refl, sym, _∙_, ap, ap₂, subst}
+use mathlib.Core.Path.{_≡_, refl, sym, _∙_, ap, subst}
 use mathlib.Core.Bool.{Bool, true, false, cond, not, _&&_}
 use mathlib.Core.List.{List}
 use Prim.Native.Nat.{ℕ, _≤_, _<_}
@@ -100,24 +100,18 @@ module _ {rule : Rule} {st : RuleState} {S : M.RuleState} (sound : Sound rule) (
   pub states-eight : length (S .states) ≡ 8
   states-eight = sym (ap length (w .states)) ∙ length-map (st .states) stateOf ∙ w .ranges .eightStates
 
-  pub counts-eight : length (S .counts) ≡ 8
-  counts-eight = sym (ap length (w .counts)) ∙ w .ranges .eightCounts
-
   pub long : Long (fragmentAt rule (S .fragment) .ranges) (S .states) (S .counts)
-  long = record { states = omega (arith, few, states-eight); counts = omega (arith, few, counts-eight) }
+  long = record { states = omega (arith, few, states-eight); counts = omega (arith, few, w .ranges .eightCounts) }
 
-  -- the model's state and count at a place
+  -- the model's state at a place
   pub state-at : (k : ℕ) → getD (S .states) k idle ≡ stateOf (getD (st .states) k 0)
   state-at k = ap (λ (l : List State). getD l k idle) (sym (w .states)) ∙ List·getD-map stateOf (st .states) k 0
 
-  pub count-at : (k : ℕ) → getD (S .counts) k 0 ≡ getD (st .counts) k 0
-  count-at k = ap (λ (l : List ℕ). getD l k 0) (sym (w .counts))
-
   abbrev pub numbered : ℕ → Slot
-  numbered k = slot (rangeAt rule (S .fragment) k) (stateOf (getD (st .states) k 0)) (getD (st .counts) k 0)
+  numbered k = slot (rangeAt rule (S .fragment) k) (stateOf (getD (st .states) k 0)) (getD (S .counts) k 0)
 
   slot-is : (k : ℕ) → slotAt (fragmentAt rule (S .fragment) .ranges) (S .states) (S .counts) k ≡ numbered k
-  slot-is k = ap₂ (slot (rangeAt rule (S .fragment) k)) (state-at k) (count-at k)
+  slot-is k = ap (λ (s : State). slot (rangeAt rule (S .fragment) k) s (getD (S .counts) k 0)) (state-at k)
 
   pub slot-in : (k : ℕ) → k < size → In (numbered k) (slotsOf rule S)
   slot-in k g = subst (λ (x : Slot). In x (slotsOf rule S)) (slot-is k) (slot-at (fragmentAt rule (S .fragment) .ranges) (S .states) (S .counts) k long g)
@@ -159,11 +153,11 @@ module _ {rule : Rule} {st : RuleState} {S : M.RuleState} (sound : Sound rule) (
 
   -- a bit of a set, of a range of the fragment
   module _ (k : ℕ) (g : k < size) where
-    pub lacking-bit : member (st .lacking) k ≡ errsTo rule (S .fragment) st next k
-    lacking-bit = ap (λ (s : ℕ). member s k) (w .ranges .lacking) ∙ member-maskN (wouldErr rule (S .fragment) st next) 8 k (omega (arith, g, few)) ∙ rw (lt-ltb k size g)
+    pub lacking-bit : member (st .lacking) k ≡ errsTo rule (S .fragment) (S .counts) st next k
+    lacking-bit = ap (λ (s : ℕ). member s k) (w .ranges .lacking) ∙ member-maskN (wouldErr rule (S .fragment) (S .counts) st next) 8 k (omega (arith, g, few)) ∙ rw (lt-ltb k size g)
 
-    pub full-bit : member (st .full) k ≡ errsTo rule (S .fragment) st own k
-    full-bit = ap (λ (s : ℕ). member s k) (w .ranges .full) ∙ member-maskN (wouldErr rule (S .fragment) st own) 8 k (omega (arith, g, few)) ∙ rw (lt-ltb k size g)
+    pub full-bit : member (st .full) k ≡ errsTo rule (S .fragment) (S .counts) st own k
+    full-bit = ap (λ (s : ℕ). member s k) (w .ranges .full) ∙ member-maskN (wouldErr rule (S .fragment) (S .counts) st own) 8 k (omega (arith, g, few)) ∙ rw (lt-ltb k size g)
 
   abbrev idles : Slot → Bool
   idles x = isIdle (move (f .join) (x .range) (x .count) (x .state) next)
@@ -179,15 +173,15 @@ module _ {rule : Rule} {st : RuleState} {S : M.RuleState} (sound : Sound rule) (
 
           at : (k : ℕ) → k < size → T (idles (numbered k))
           at k g =
-              let e = in-none (wouldErr rule (S .fragment) st next) (sym (w .ranges .lacking) ∙ none) k (omega (arith, g, few)) in
+              let e = in-none (wouldErr rule (S .fragment) (S .counts) st next) (sym (w .ranges .lacking) ∙ none) k (omega (arith, g, few)) in
               rw (next-or (w .ranges .each k g), rw (lt-ltb k size g) at e) tt
 
       from : T (complete (joinOf rule S) (slotsOf rule S)) → T (eqb (st .lacking) 0)
-      from t = rw (eq-eqb (st .lacking) 0 (w .ranges .lacking ∙ none-in (wouldErr rule (S .fragment) st next) (λ k g. at k (ltb k size) refl))) tt
+      from t = rw (eq-eqb (st .lacking) 0 (w .ranges .lacking ∙ none-in (wouldErr rule (S .fragment) (S .counts) st next) (λ k g. at k (ltb k size) refl))) tt
         where
-          at : (k : ℕ) (a : Bool) → ltb k (size) ≡ a → (a && errsTo rule (S .fragment) st next k) ≡ false
+          at : (k : ℕ) (a : Bool) → ltb k (size) ≡ a → (a && errsTo rule (S .fragment) (S .counts) st next k) ≡ false
           at k false q = refl
-          at k true q = let g = ltb-true k size q in let u = all→ idles (slotsOf rule S) t (numbered k) (slot-in k g) in is-false (errsTo rule (S .fragment) st next k) (rw (next-or (w .ranges .each k g)) at u)
+          at k true q = let g = ltb-true k size q in let u = all→ idles (slotsOf rule S) t (numbered k) (slot-in k g) in is-false (errsTo rule (S .fragment) (S .counts) st next k) (rw (next-or (w .ranges .each k g)) at u)
 
   abbrev grows : Slot → Bool
   grows x = isCounting (move (f .join) (x .range) (x .count) (x .state) own)
@@ -195,15 +189,15 @@ module _ {rule : Rule} {st : RuleState} {S : M.RuleState} (sound : Sound rule) (
   module _ {i cell : ℕ} (c : Cell rule (S .fragment) i cell) where
     -- every range is full
     abbrev everyFull : Type 0
-    everyFull = (k : ℕ) → k < size → errsTo rule (S .fragment) st own k ≡ true
+    everyFull = (k : ℕ) → k < size → errsTo rule (S .fragment) (S .counts) st own k ≡ true
 
     full→ : st .full ≡ rangesOf cell → everyFull
     full→ e k g = sym (full-bit k g) ∙ ap (λ (s : ℕ). member s k) (e ∙ ranges-are cell size (c .less)) ∙ member-maskN (λ m. ltb m size) 8 k (omega (arith, g, few)) ∙ lt-ltb k size g
 
     full← : everyFull → st .full ≡ rangesOf cell
-    full← h = w .ranges .full ∙ same-set (wouldErr rule (S .fragment) st own) (λ k. ltb k size) (λ k g. at k (ltb k size) refl) ∙ sym (ranges-are cell size (c .less))
+    full← h = w .ranges .full ∙ same-set (wouldErr rule (S .fragment) (S .counts) st own) (λ k. ltb k size) (λ k g. at k (ltb k size) refl) ∙ sym (ranges-are cell size (c .less))
       where
-        at : (k : ℕ) (a : Bool) → ltb k (size) ≡ a → (a && errsTo rule (S .fragment) st own k) ≡ a
+        at : (k : ℕ) (a : Bool) → ltb k (size) ≡ a → (a && errsTo rule (S .fragment) (S .counts) st own k) ≡ a
         at k false q = refl
         at k true q = h k (ltb-true k size q)
 
@@ -220,8 +214,8 @@ module _ {rule : Rule} {st : RuleState} {S : M.RuleState} (sound : Sound rule) (
                 subst T (ap grows e ∙ own-or (w .ranges .each k g) ∙ ap not all-full) u
 
         from : T (not (canGrow (joinOf rule S) (slotsOf rule S))) → T (eqb (st .full) (rangesOf cell))
-        from t = rw (eq-eqb (st .full) (rangesOf cell) (full← (λ k g. look k g (errsTo rule (S .fragment) st own k) refl))) tt
+        from t = rw (eq-eqb (st .full) (rangesOf cell) (full← (λ k g. look k g (errsTo rule (S .fragment) (S .counts) st own k) refl))) tt
           where
-            look : (k : ℕ) → k < size → (b : Bool) → errsTo rule (S .fragment) st own k ≡ b → b ≡ true
+            look : (k : ℕ) → k < size → (b : Bool) → errsTo rule (S .fragment) (S .counts) st own k ≡ b → b ≡ true
             look k g true q = refl
             look k g false q = absurd (T-not (canGrow (joinOf rule S) (slotsOf rule S)) t (any← grows (slotsOf rule S) (numbered k) (slot-in k g) (rw (own-or (w .ranges .each k g), q) tt)))

@@ -11,9 +11,10 @@ use Rattle.pattern.specs.Meaning.{Range, fragmentNames, orderingNames, Kind, on
 use Rattle.pattern.specs.Model.{lastFragments, roundOf, noFragment, fragmentAt, has}
 use Rattle.pattern.proofs.Fragment.{Fine}
 use Rattle.pattern.proofs.Basics.{each-in, isIn→, zero-one}
+use Rattle.pattern.proofs.Numbering.{round-names}
 use Rattle.layout.specs.Pages.{rangeAt, noRange}
 use Rattle.layout.proofs.PageLaws.{each-at, round-formed}
-use Rattle.layout.proofs.Once.{same-place, one-distinct, name-place, ordering-place, round-names}
+use Rattle.layout.proofs.Once.{same-place, one-distinct, name-place, ordering-place}
 use Rattle.tables.specs.Cells.{isTimed}
 
 -- ---- what a well-formed rule has

@@ -6,7 +6,7 @@ use mathlib.Core.Bool.{Bool, true, false, cond, and-false}
 use mathlib.Core.List.{List, map}
 use Prim.Native.Nat.{ℕ, suc, _≤_, _<_}
 use native.Mathlib.Omega.{arith}
-use lib.ListN.{length, getD, set, replicate}
+use lib.ListN.{length, getD, replicate}
 use borrow.Author.Tests.{lt-ltb}
 use Rattle.pattern.specs.Meaning.{shuffled, Rule}
 use Rattle.pattern.specs.Recogniser.{State, idle, unbegun, own, moves, tallies, notBegun, within}
@@ -16,6 +16,7 @@ use Rattle.recogniser.specs.Numbers.{stateOf}
 use Rattle.layout.specs.Pages.{rangeAt}
 use Rattle.rule_state.specs.declared.RuleState.{RuleState}
 use Rattle.tables.specs.Cells.{freesIn, isTimed, frees, Cell}
+use Rattle.fragment.specs.Fragments.{zeros}
 use Rattle.step.specs.declared.Seen.the-variants.{Releases, Taken}
 use Rattle.step.specs.declared.Ready.{Ready}
 use Rattle.step.specs.Steps.{takenState, takenOf, openedOf, readyAs, freedOf, stepOf}
@@ -36,16 +37,16 @@ module _ {rule : Rule} (sound : Sound rule) (time : ℕ) {n i name : ℕ} (hn : 
     (e : name ≡ rangeAt rule n i .name) {cell : ℕ} (c : Cell rule n i cell) where
   -- ---- an event that is no error to any range
 
-  -- st is the code's state, but for the event's own range, after the event
-  module _ (st : RuleState) (w : Ranges rule n st) (clear : wouldErr rule n st own i ≡ false) (alone : shuffled (fragmentAt rule n .join) ≡ false → AloneBut rule n st i) where
-    takes : Ch.Takes sound hn i (getD (st .states) i 0) (getD (st .counts) i 0)
-    takes = Ch.takes sound hn i (getD (st .states) i 0) (getD (st .counts) i 0) hi (w .each i hi) (rw (lt-ltb i (length (fragmentAt rule n .ranges)) hi) at clear)
+  -- st is the code's state, but for the event's own range, after the event, and cs the model's counts before it
+  module _ (cs : List ℕ) (st : RuleState) (w : Ranges rule n cs st) (clear : wouldErr rule n cs st own i ≡ false) (alone : shuffled (fragmentAt rule n .join) ≡ false → AloneBut rule n st i) where
+    takes : Ch.Takes sound hn i (getD (st .states) i 0) (getD cs i 0)
+    takes = Ch.takes sound hn i (getD (st .states) i 0) (getD cs i 0) hi (w .each i hi) (rw (lt-ltb i (length (fragmentAt rule n .ranges)) hi) at clear)
 
     abbrev o : RuleState
     o = takenState cell st time
 
-    replaced : Replaced rule n st i 3 (suc (getD (st .counts) i 0)) (takenState cell st time)
-    replaced = Ch.taken-replaced sound hn c hi st time (takes .room)
+    replaced : Replaced rule n st i 3 (suc (getD cs i 0)) (takenState cell st time)
+    replaced = Ch.taken-replaced sound hn c cs st (w .stored) time
 
     few : length (fragmentAt rule n .ranges) ≤ 8
     few = sound .count n hn .1
@@ -58,7 +59,7 @@ module _ {rule : Rule} (sound : Sound rule) (time : ℕ) {n i name : ℕ} (hn : 
     }
 
     -- what the model makes of its states and counts
-    module _ (ss : List State) (cs : List ℕ) (same : st .counts ≡ cs) (b : Beside sound hn hi e ss cs (st .states)) (unfree : frees rule n ≡ false) where
+    module _ (ss : List State) (b : Beside sound hn hi e ss cs (st .states)) (unfree : frees rule n ≡ false) where
       abbrev N : M.RuleState
       N = record {
         fragment = n;
@@ -73,9 +74,8 @@ module _ {rule : Rule} (sound : Sound rule) (time : ℕ) {n i name : ℕ} (hn : 
         unfree = unfree;
         fragment = c .fragment;
         states = ap (map stateOf) (replaced .states) ∙ states-moved sound hn hi e b;
-        counts = replaced .counts ∙ ap (λ (l : List ℕ). set l i (suc (getD l i 0))) same ∙ counts-moved sound hn hi e b;
         end = end-is c (st .end) time;
-        ranges = kept replaced w few hi (counts refl (takes .room));
+        ranges = subst (λ (l : List ℕ). Ranges rule n l (takenState cell st time)) (counts-moved sound hn hi e b) (kept replaced w few hi (counts refl (takes .room)));
         lone = λ p. lone (alone p);
       }
 
@@ -115,11 +115,11 @@ module _ {rule : Rule} (sound : Sound rule) (time : ℕ) {n i name : ℕ} (hn : 
     begin-taken : frees rule n ≡ false → Linked rule time (takenOf cell (openedOf cell st) time) B
     begin-taken q =
         subst (λ (S : M.RuleState). Linked rule time (takenOf cell (openedOf cell st) time) S) is
-        (taken-linked (openedOf cell st) (Ch.opened-ranges sound hn c st) clear alone start (replicate 8 0) (Ch.opened-counts sound hn c st) beside q
+        (taken-linked zeros (openedOf cell st) (Ch.opened-ranges sound hn c st) clear alone start beside q
         (λ a. ap (λ (x : ℕ). inTime (rule .kind) x time) (Ch.opened-end sound hn c st) ∙ t a))
       where
         -- every range waits: *own* is no error, and none counts
-        clear : wouldErr rule n (openedOf cell st) own i ≡ false
+        clear : wouldErr rule n zeros (openedOf cell st) own i ≡ false
         clear = rw (lt-ltb i (length (fragmentAt rule n .ranges)) hi, waits-there i hi)
 
         alone : shuffled (fragmentAt rule n .join) ≡ false → AloneBut rule n (openedOf cell st) i
@@ -128,7 +128,7 @@ module _ {rule : Rule} (sound : Sound rule) (time : ℕ) {n i name : ℕ} (hn : 
         states-are : moves (fragmentAt rule n .join) (within name) (fragmentAt rule n .ranges) start (replicate 8 0) ≡ B .states
         states-are = sym (rw q)
 
-        is : N (openedOf cell st) (Ch.opened-ranges sound hn c st) clear alone start (replicate 8 0) (Ch.opened-counts sound hn c st) beside q ≡ B
+        is : N zeros (openedOf cell st) (Ch.opened-ranges sound hn c st) clear alone start beside q ≡ B
         is k = record { fragment = n; states = states-are k; counts = B .counts; end = endAfter rule n (Ch.opened-end sound hn c st k) time }
 
     pub begin-linked : Linked rule time (stepOf cell st time (opensBy cell st)) (begin rule n (st .end) (record { name = name; time = time }))

@@ -8,6 +8,7 @@ use native.Mathlib.Nat.{mod-eq-of-lt}
 use native.Mathlib.Omega.{arith}
 use lib.Dec.{T, eqb}
 use lib.ListN.{length, getD}
+use lib.Seq.{set-getD}
 use borrow.Author.Tests.{lt-ltb, eqb-true, eqb-false}
 use Rattle.pattern.specs.Meaning.{Event, Join, Range, shuffled, Rule}
 use Rattle.pattern.specs.Recogniser.{State, idle, counting, done, error, own, sibling, hasEnough, move, isError, Slot, slots, moves, tallies, within, erred}
@@ -48,10 +49,6 @@ closed-end : (st : RuleState) → closedOf st .end ≡ st .end
 unfolding closedOf
 closed-end st = refl
 
-closed-counts : (st : RuleState) → closedOf st .counts ≡ st .counts
-unfolding closedOf
-closed-counts st = refl
-
 module _ {rule : Rule} (sound : Sound rule) (time : ℕ) {st : RuleState} {S : M.RuleState} (w : Counting rule st S) {i name cell : ℕ} (hi : i < length (fragmentAt rule (S .fragment) .ranges))
     (e : name ≡ rangeAt rule (S .fragment) i .name) (c : Cell rule (S .fragment) i cell) (t : afterP rule (S .fragment) ≡ true → inTime (rule .kind) (S .end) time ≡ true) where
   abbrev n : ℕ
@@ -87,7 +84,7 @@ module _ {rule : Rule} (sound : Sound rule) (time : ℕ) {st : RuleState} {S : M
   state k = stateOf (getD (st .states) k 0)
 
   abbrev count : ℕ → ℕ
-  count k = getD (st .counts) k 0
+  count k = getD (S .counts) k 0
 
   -- an error to a range
   errs : (k : ℕ) → k < size → T (isError (move j (rangeAt rule (S .fragment) k) (count k) (state k) (within name (rangeAt rule (S .fragment) k)))) → Erred rule (step rule S E)
@@ -109,32 +106,32 @@ module _ {rule : Rule} (sound : Sound rule) (time : ℕ) {st : RuleState} {S : M
   breaks er = erred-linked rule time st (step rule S E) er
 
   -- the range can take one more
-  module _ (clear : errsTo rule (S .fragment) st own i ≡ false) where
+  module _ (clear : errsTo rule (S .fragment) (S .counts) st own i ≡ false) where
     takes : Ch.Takes sound (w .inside) i (getD (st .states) i 0) (count i)
     takes = Ch.takes sound (w .inside) i (getD (st .states) i 0) (count i) hi (w .ranges .each i hi) clear
 
     -- st₁ is st, where every range but the event's own stands as the event leaves it
-    module _ (st₁ : RuleState) (w₁ : Ranges rule (S .fragment) st₁) (same-end : st₁ .end ≡ st .end) (same-counts : st₁ .counts ≡ st .counts) (same-own : getD (st₁ .states) i 0 ≡ getD (st .states) i 0)
+    module _ (st₁ : RuleState) (w₁ : Ranges rule (S .fragment) (S .counts) st₁) (same-end : st₁ .end ≡ st .end) (same-own : getD (st₁ .states) i 0 ≡ getD (st .states) i 0)
         (left : (k : ℕ) → k < size → (k ≡ i → ⊥) → stateOf (getD (st₁ .states) k 0) ≡ move j (rangeAt rule (S .fragment) k) (count k) (state k) sibling)
         (alone : shuffled j ≡ false → AloneBut rule (S .fragment) st₁ i) where
-      clear₁ : wouldErr rule (S .fragment) st₁ own i ≡ false
-      clear₁ = rw (lt-ltb i (size) hi, same-own, ap (λ (l : List ℕ). getD l i 0) same-counts) clear
+      clear₁ : wouldErr rule (S .fragment) (S .counts) st₁ own i ≡ false
+      clear₁ = rw (lt-ltb i (size) hi, same-own) clear
 
       beside : Beside sound (w .inside) hi e (S .states) (S .counts) (st₁ .states)
       beside = record {
         states = K.states-eight sound w;
-        counts = K.counts-eight sound w;
+        counts = w .ranges .eightCounts;
         eight = w₁ .eightStates;
-        here = rw (K.state-at sound w i, K.count-at sound w i) (takes .moves);
-        tallied = rw (K.state-at sound w i, K.count-at sound w i) (takes .tallies);
-        there = λ k g d. left k g d ∙ sym (rw (K.state-at sound w k, K.count-at sound w k));
+        here = rw (K.state-at sound w i) (takes .moves);
+        tallied = rw (K.state-at sound w i) (takes .tallies);
+        there = λ k g d. left k g d ∙ sym (rw (K.state-at sound w k));
         past = λ k l g. ap stateOf (w₁ .idle k l g) ∙ sym (K.state-at sound w k ∙ ap stateOf (w .ranges .idle k l g));
       }
 
       goes-on : Goal (takenOf cell st₁ time)
       goes-on =
           subst (λ (x : M.RuleState). Linked rule time (takenOf cell st₁ time) x) is
-          (taken-linked sound time (w .inside) hi e c st₁ w₁ clear₁ alone (S .states) (S .counts) (same-counts ∙ w .counts) beside (w .unfree)
+          (taken-linked sound time (w .inside) hi e c (S .counts) st₁ w₁ clear₁ alone (S .states) beside (w .unfree)
           (λ a. ap (λ (x : ℕ). inTime (rule .kind) x time) (same-end ∙ w .end) ∙ t a))
         where
           -- the model's state, for an end of P
@@ -147,7 +144,7 @@ module _ {rule : Rule} (sound : Sound rule) (time : ℕ) {st : RuleState} {S : M
 
     -- blocks are shuffled, or the event is of the range that counts
     stays : (shuffled j ≡ false → i ≡ st .current) → Goal (takenOf cell st time)
-    stays h = goes-on st (w .ranges) refl refl refl (λ k g d. sym (sibling-stays (w .ranges .each k g) (λ p. alone p k g d))) alone
+    stays h = goes-on st (w .ranges) refl refl (λ k g d. sym (sibling-stays (w .ranges .each k g) (λ p. alone p k g d))) alone
       where
         alone : shuffled j ≡ false → AloneBut rule (S .fragment) st i
         alone p = subst (AloneBut rule (S .fragment) st) (sym (h p)) (w .lone p .alone)
@@ -175,7 +172,7 @@ module _ {rule : Rule} (sound : Sound rule) (time : ℕ) {st : RuleState} {S : M
       lacks q = breaks (errs (st .current) hc (rw (sibling-at sound (w .inside) hi e (st .current) hc (λ z. apart (sym z)), old-is false q) tt))
 
       closes : hasEnough (rangeAt rule (S .fragment) (st .current)) (count (st .current)) ≡ true → Goal (takenOf cell (closedOf st) time)
-      closes q = goes-on (closedOf st) w₁ (closed-end st) (closed-counts st) (state-there r (w .ranges) few hc i apart) left (λ _. alone)
+      closes q = goes-on (closedOf st) w₁ (closed-end st) (state-there r (w .ranges) few hc i apart) left (λ _. alone)
         where
           few : size ≤ 8
           few = K.few sound w
@@ -183,8 +180,8 @@ module _ {rule : Rule} (sound : Sound rule) (time : ℕ) {st : RuleState} {S : M
           r : Replaced rule (S .fragment) st (st .current) 4 (count (st .current)) (closedOf st)
           r = Ch.closed-replaced sound (w .inside) (w .ranges) hc (rw (lt-ltb (st .current) (size) hc, counts-there, q))
 
-          w₁ : Ranges rule (S .fragment) (closedOf st)
-          w₁ = kept r (w .ranges) few hc (closed refl p)
+          w₁ : Ranges rule (S .fragment) (S .counts) (closedOf st)
+          w₁ = subst (λ (l : List ℕ). Ranges rule (S .fragment) l (closedOf st)) (set-getD (S .counts) (st .current) 0) (kept r (w .ranges) few hc (closed refl p))
 
           left : (k : ℕ) → k < size → (k ≡ i → ⊥) → stateOf (getD (closedOf st .states) k 0) ≡ move j (rangeAt rule (S .fragment) k) (count k) (state k) sibling
           left k g d = look (eqb k (st .current)) refl
@@ -204,7 +201,7 @@ module _ {rule : Rule} (sound : Sound rule) (time : ℕ) {st : RuleState} {S : M
 
   -- the code's tests, in the model's words
   abbrev ownErrs : Bool
-  ownErrs = errsTo rule (S .fragment) st own i
+  ownErrs = errsTo rule (S .fragment) (S .counts) st own i
 
   -- in a row, an event of another range than the one that counts
   abbrev rowSeen : Ready

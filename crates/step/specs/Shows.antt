@@ -2,7 +2,7 @@
 -- Assumes nothing.
 use mathlib.Core.Path.{_≡_}
 use mathlib.Core.Bool.{Bool, true, false, not, _&&_}
-use mathlib.Core.List.{map}
+use mathlib.Core.List.{List, map}
 use Prim.Native.Nat.{ℕ, _≤_, _<_}
 use lib.Dec.{ltb}
 use lib.ListN.{length, getD}
@@ -12,6 +12,7 @@ use Rattle.pattern.specs.Recogniser.{Class, own, next, move, isError, erred}
 use Rattle.pattern.specs.Model.{roundOf, fragmentAt, slotsOf, released, fresh, atRest, pressed}
 use Rattle.pattern.specs.Model as M
 use Rattle.recogniser.specs.Numbers.{stateOf}
+use Rattle.recogniser.specs.Counts.{saturated}
 use Rattle.layout.specs.Pages.{rangeAt}
 use Rattle.rule_state.specs.declared.RuleState.{RuleState}
 use Rattle.tables.specs.Cells.{isTimed}
@@ -24,24 +25,28 @@ pub data InPlay (j : Join) (r : Range) (state count : ℕ) : Type 0 where
   counts : state ≡ 3 → AtMost r count → InPlay j r state count
   closed : state ≡ 4 → shuffled j ≡ false → InPlay j r state count
 
-module _ (rule : Rule) (n : ℕ) (st : RuleState) where
-  -- an event of this class would be an error to range k of fragment n, by its state and its count; and there is such a range
+module _ (rule : Rule) (n : ℕ) (cs : List ℕ) (st : RuleState) where
+  -- an event of this class would be an error to range k of fragment n, by its state and by how many of its events have come; and there is such a range
   abbrev pub errsTo : Class → ℕ → Bool
-  errsTo class k = isError (move (fragmentAt rule n .join) (rangeAt rule n k) (getD (st .counts) k 0) (stateOf (getD (st .states) k 0)) class)
+  errsTo class k = isError (move (fragmentAt rule n .join) (rangeAt rule n k) (getD cs k 0) (stateOf (getD (st .states) k 0)) class)
 
   abbrev pub wouldErr : Class → ℕ → Bool
   wouldErr class k = ltb k (length (fragmentAt rule n .ranges)) && errsTo class k
 
+  -- of range k of fragment n so many events have come as `cs` says
   pub record Ranges : Type 0 where
     pub eightStates : length (st .states) ≡ 8
-    pub eightCounts : length (st .counts) ≡ 8
-    pub each : (k : ℕ) → k < length (fragmentAt rule n .ranges) → InPlay (fragmentAt rule n .join) (rangeAt rule n k) (getD (st .states) k 0) (getD (st .counts) k 0)
+    pub eightCounts : length cs ≡ 8
+    -- a count stops at 65,535
+    pub stored : st .counts ≡ map saturated cs
+    pub each : (k : ℕ) → k < length (fragmentAt rule n .ranges) → InPlay (fragmentAt rule n .join) (rangeAt rule n k) (getD (st .states) k 0) (getD cs k 0)
     -- past the last range
     pub idle : (k : ℕ) → length (fragmentAt rule n .ranges) ≤ k → k < 8 → getD (st .states) k 0 ≡ 0
     -- the sets of the ranges to which *next*, and to which *own*, would be an error: two columns of the table of moves
     pub lacking : st .lacking ≡ maskN (wouldErr next) 8
     pub full : st .full ≡ maskN (wouldErr own) 8
 
+module _ (rule : Rule) (n : ℕ) (st : RuleState) where
   -- no range but range j counts
   abbrev pub AloneBut : ℕ → Type 0
   AloneBut j = (k : ℕ) → k < length (fragmentAt rule n .ranges) → (k ≡ j → ⊥) → getD (st .states) k 0 ≡ 3 → ⊥
@@ -60,9 +65,8 @@ pub record Counting (rule : Rule) (st : RuleState) (S : M.RuleState) : Type 0 wh
   pub unfree : released rule S ≡ false
   pub fragment : st .fragment ≡ S .fragment
   pub states : map stateOf (st .states) ≡ S .states
-  pub counts : st .counts ≡ S .counts
   pub end : st .end ≡ S .end
-  pub ranges : Ranges rule (S .fragment) st
+  pub ranges : Ranges rule (S .fragment) (S .counts) st
   -- in a row
   pub lone : shuffled (fragmentAt rule (S .fragment) .join) ≡ false → Lone rule (S .fragment) st
 

@@ -9,6 +9,7 @@ use lib.ListN.{getD, set}
 use Rattle.names.specs.Names.{member}
 use Rattle.masks.specs.Masks.{maskN}
 use Rattle.recogniser.specs.Numbers.{nextState}
+use Rattle.recogniser.specs.Counts.{saturated}
 use Rattle.rule_state.specs.declared.RuleState.{RuleState}
 use Rattle.tables.specs.Cells.{fragmentIn, beforeIn, lastIn, freesIn, indexIn, joinOfCell, shuffledIn, leastIn, mostIn, inQIn, endsPIn, cellAt, limitOf}
 use Rattle.fragment.specs.Fragments.{zeros, waitingOf, rangesOf}
@@ -49,7 +50,7 @@ standingOf cell lacking full = cond (lastIn cell && eqb lacking 0) Whole (cond (
 
 -- the cell's range counts, one more than before
 abbrev pub countOf : ℕ → RuleState → ℕ
-countOf cell st = (getD (st .counts) (indexIn cell) 0 + 1) % 65536
+countOf cell st = saturated (getD (st .counts) (indexIn cell) 0 + 1)
 
 abbrev pub takenState : ℕ → RuleState → ℕ → RuleState
 takenState cell st now = record {

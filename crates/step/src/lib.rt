@@ -113,7 +113,7 @@ fn takes(cell: u64, st: RuleState, time: u32) -> Stepped
 {
     let i = tables::index_in(cell);
     let was = st.counts;
-    let count = std::num::wrapping_add_u16(was[i as usize], 1);
+    let count = recogniser::saturating_sum(was[i as usize], 1);
     let counts = fragment::raised(was, i);
     let before = st.states;
     let states = fragment::with_state(before, i, moved(cell, WAITING, OWN, count));

@@ -15,7 +15,8 @@ use Rattle.pattern.specs.Model.{roundOf, noFragment, fragmentAt}
 use Rattle.pattern.proofs.Basics.{is-true, both-l, both-r, isIn→, isIn←}
 use Rattle.layout.specs.Pages.{noRange, ruleAt, rangeAt}
 use Rattle.layout.proofs.PageLaws.{round-formed, each-at}
-use Rattle.layout.proofs.Once.{in-ordering, ordering-place, round-names}
+use Rattle.pattern.proofs.Numbering.{round-names}
+use Rattle.layout.proofs.Once.{in-ordering, ordering-place}
 use Rattle.tables.specs.Cells.{fragmentIn, cellAt, maskIn, Cell, HoldsRules, firstFrom, standsAt, nameAt}
 
 -- the first number of which p is so, where it is so of m alone

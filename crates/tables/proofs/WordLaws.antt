@@ -44,7 +44,7 @@ module _ (r : Range) (w : WellFormedRange r) where
   bit-in = let h : r .name ≤ 63 = w .named in omega arith
 
   pub low-in : lowIn (rangeWord r) ≡ r .u
-  low-in = higher 8 0 16 _ name-small ∙ lowest 16 _ (omega (arith, w .order, w .few))
+  low-in = higher 8 0 16 _ name-small ∙ lowest 16 _ (omega (arith, w .small))
 
   pub high-in : highIn (rangeWord r) ≡ r .v
-  high-in = let m : r .v ≤ 65535 = w .few in higher 8 16 16 _ name-small ∙ higher 16 0 16 _ (omega (arith, w .order)) ∙ omega arith
+  high-in = let m : r .v ≤ 65535 = w .few in higher 8 16 16 _ name-small ∙ higher 16 0 16 _ (omega (arith, w .small)) ∙ omega arith

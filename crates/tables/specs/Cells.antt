@@ -54,7 +54,7 @@ inQIn cell = flagAt 20 cell
 abbrev pub endsPIn : ℕ → Bool
 endsPIn cell = flagAt 21 cell
 
--- the range's u and v
+-- the range's u and v, which is 0 where it has no upper end
 abbrev pub leastIn : ℕ → ℕ
 leastIn cell = part 32 16 cell
 

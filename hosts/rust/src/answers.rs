@@ -94,7 +94,7 @@ pub enum Refusal {
     NotZero { place: u32 },
     /// 6: a trigger or a range's name above 63.
     Name { place: u32 },
-    /// 7: u is 0, or v < u.
+    /// 7: u is 0, or v < u. In version 2 a v of 0 is no upper end: u or more.
     Bounds { place: u32 },
     /// 8: a range's name is already in the rule.
     NameTwice { place: u32 },
@@ -167,7 +167,11 @@ impl Refusal {
             ),
             NotZero { place } => (5, Some(place), "a Q count, trigger or t is not 0 where 0 is due"),
             Name { place } => (6, Some(place), "a trigger or a range's name is above 63"),
-            Bounds { place } => (7, Some(place), "a range's u is 0, or its v is below u"),
+            Bounds { place } => (
+                7,
+                Some(place),
+                "a range's u is 0, or its v is below u (in version 2 a v of 0 is no upper end)",
+            ),
             NameTwice { place } => (8, Some(place), "a range's name is already in the rule"),
             Direction { place } => (9, Some(place), "a trigger is an output, or a name of Q is an input"),
             LeftOver { place } => (10, Some(place), "bytes are left over after the last rule"),

@@ -1,8 +1,8 @@
-//! Sessions: several under one book, restarts, stored bytes, refusals that leave everything, the count's end, a stopped book, threads.
+//! Sessions: several under one book, restarts, stored bytes, refusals that leave everything, the count's end, a stopped book, a range without an upper end, threads.
 
 mod common;
 
-use common::{with_taken, N, O, R, T};
+use common::{with_taken, E, N, O, R, T};
 use guard::{Book, Refusal, Session, Verdict, MONITOR_BYTES};
 use std::sync::Arc;
 
@@ -138,6 +138,34 @@ fn refused_sheets() {
         assert_eq!(opens(1, join), if join < 2 { Ok(()) } else { refused });
         assert_eq!(opens(2, join), if join < 4 { Ok(()) } else { refused });
     }
+    // "at field v refusal 7 is not given for v = 0; u = 0 still meets it"
+    let bounded = |version: u8, u: u8, v: u8| {
+        let mut sheet = E;
+        (sheet[3], sheet[25], sheet[27]) = (version, u, v);
+        Book::open(&sheet).map(|_| ())
+    };
+    let (at_u, at_v) = (Err(Refusal::Bounds { place: 25 }), Err(Refusal::Bounds { place: 27 }));
+    for version in 1..=2 {
+        assert_eq!((bounded(version, 0, 0), bounded(version, 0, 1)), (at_u, at_u));
+        assert_eq!((bounded(version, 2, 1), bounded(version, 2, 2)), (at_v, Ok(())));
+    }
+    assert_eq!((bounded(1, 2, 0), bounded(2, 2, 0)), (at_v, Ok(())));
+}
+
+/// "v = 0 means that u or more occurrences are allowed": more than sixteen bits count, on a range that one fewer than u would break; and the deadline is held off meanwhile.
+#[test]
+fn a_range_without_an_upper_end() {
+    let book = Book::open(&E).unwrap();
+    let mut session = book.session();
+    for _ in 0..65_537 {
+        assert_eq!(session.event(0, 0), OPEN);
+    }
+    assert_eq!((session.clock(99), session.event(0, 100), session.taken()), (OPEN, OPEN, 65_539));
+    assert_eq!((session.event(9, 110), session.event(9, 110)), (Ok(Verdict::Whole), Ok(Verdict::Whole)));
+    assert_eq!(session.event(9, 110), Ok(Verdict::Broken { at: 65_542, mask: 1 }));
+    session.restart();
+    session.event(0, 0).unwrap();
+    assert_eq!(session.event(9, 0), Ok(Verdict::Broken { at: 2, mask: 1 }));
 }
 
 /// A session that owns its book, moved to another thread, and many threads under one book.

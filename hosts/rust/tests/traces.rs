@@ -1,13 +1,13 @@
-//! Document 01, "Traces to settle arguments", its printed case, and the traces of change 1: by log, live, and the log with each budget held to the session. What is due is written out by hand.
+//! Document 01, "Traces to settle arguments", its printed case, and the traces of changes 1 and 2: by log, live, and the log with each budget held to the session. What is due is written out by hand.
 
 mod common;
 
-use common::{A, N, O, R, S, T, W};
+use common::{A, E, F, G, H, N, O, R, S, T, W};
 use guard::{run, Book, Refusal, Verdict};
 
 /// Sheet; observations ("0@5" is name 0 at time 5, "c@5" a clock reading); each answer (w whole, o open, b broken with its k, r refused with its
 /// number; the mask is 1); the five numbers.
-const TRACES: [(&[u8], &str, &str, &str); 32] = [
+const TRACES: [(&[u8], &str, &str, &str); 50] = [
     (&T, "", "", "0 0 0 0 0"),
     (&T, "0@0 0@5 1@15", "o o w", "0 0 0 3 0"),
     (&T, "0@0 0@5 1@16", "o o b3", "2 0 1 3 3"),
@@ -40,6 +40,24 @@ const TRACES: [(&[u8], &str, &str, &str); 32] = [
     (&O, "1@0 1@0 2@0 1@0 1@0 2@0", "o o w o o w", "0 0 0 6 0"),
     (&W, "0@0 1@0 0@0 1@0 4@0 3@0 4@0 2@0", "o o o o o o o w", "0 0 0 8 0"),
     (&W, "0@0 1@0 0@0 1@0 4@0 3@0 2@0", "o o o o o o b7", "2 0 1 7 7"),
+    (&E, "0@0 9@0", "o b2", "2 0 1 2 2"),
+    (&E, "0@0 0@0 9@10", "o o w", "0 0 0 3 0"),
+    (&E, "0@0 0@0 0@0 0@0 0@0 9@10", "o o o o o w", "0 0 0 6 0"),
+    (&E, "0@0 0@0 0@0 0@0 c@99", "o o o o o", "1 0 1 5 0"),
+    (&E, "0@0 0@0 0@50 9@60", "o o o w", "0 0 0 4 0"),
+    (&E, "0@0 0@0 0@50 9@61", "o o o b4", "2 0 1 4 4"),
+    (&E, "0@0 0@0 9@0 9@0 9@0", "o o w w b5", "2 0 1 5 5"),
+    (&H, "0@0 0@0 1@0 0@0", "o o o b4", "2 0 1 4 4"),
+    (&F, "0@0 0@0 1@0 0@0", "o o o b4", "2 0 1 4 4"),
+    (&F, "0@0 0@0 1@0 c@11", "o o o b4", "2 0 1 4 4"),
+    (&F, "1@0 0@0 0@0 c@99", "o o o o", "1 0 1 4 0"),
+    (&G, "0@0 0@0 1@0 0@0 9@10", "o o o o w", "0 0 0 5 0"),
+    (&G, "0@0 0@0 1@0 c@99", "o o o o", "1 0 1 4 0"),
+    (&H, "0@0 0@0 1@0 3@0 1@0 3@0 1@0 2@0", "o o o o o o o w", "0 0 0 8 0"),
+    (&H, "0@0 0@0 1@0 3@0 1@0 2@0", "o o o o o b6", "2 0 1 6 6"),
+    (&F, "1@0 0@0 9@1 9@2 9@10 c@99", "o o w w w w", "0 0 0 6 0"),
+    (&F, "1@0 0@0 9@1 9@2 9@10 c@99 9@99", "o o w w w w b7", "2 0 1 7 7"),
+    (&F, "1@0 0@0 9@1 9@2 9@10 c@99 0@99", "o o w w w w o", "1 0 1 7 0"),
 ];
 
 /// A name, or None for a clock reading, and a time.

@@ -9,17 +9,17 @@ use Rattle.step.proofs.takes.Tie as tie
 index-in-requires : tie.Need-index-in-requires
 index-in-requires c κs = search needs
 
-cast-wrapping-add-u16 : tie.Need-cast-wrapping-add-u16
-cast-wrapping-add-u16 c = search needs
+cast-saturating-sum : tie.Need-cast-saturating-sum
+cast-saturating-sum c = search needs
 
-mul-wrapping-add-u16 : tie.Need-mul-wrapping-add-u16
-mul-wrapping-add-u16 c = search needs
+mul-saturating-sum : tie.Need-mul-saturating-sum
+mul-saturating-sum c = search needs
 
-array-read-wrapping-add-u16 : tie.Need-array-read-wrapping-add-u16
-array-read-wrapping-add-u16 c = search needs
+array-read-saturating-sum : tie.Need-array-read-saturating-sum
+array-read-saturating-sum c = search needs
 
-wrapping-add-u16-requires : tie.Need-wrapping-add-u16-requires
-wrapping-add-u16-requires c κs = search needs
+saturating-sum-requires : tie.Need-saturating-sum-requires
+saturating-sum-requires c κs = search needs
 
 raised-requires : tie.Need-raised-requires
 raised-requires c κs = search needs
@@ -70,7 +70,7 @@ returns c =
       l .before .before .with-state .ensures,
       m .moved .ensures,
       n .raised .ensures,
-      n .before .wrapping-add-u16 .ensures,
+      n .before .saturating-sum .ensures,
       index-of _ (i .index-in .ensures),
       i .index-in .ensures,
     )
@@ -80,10 +80,10 @@ takes-spec =
     tie.close
     (tie.spec
     index-in-requires
-    cast-wrapping-add-u16
-    mul-wrapping-add-u16
-    array-read-wrapping-add-u16
-    wrapping-add-u16-requires
+    cast-saturating-sum
+    mul-saturating-sum
+    array-read-saturating-sum
+    saturating-sum-requires
     raised-requires
     moved-requires
     with-state-requires

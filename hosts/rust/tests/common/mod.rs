@@ -1,4 +1,4 @@
-//! The rules of the traces of document 01 and of change 1, each alone in its sheet; and a monitor's bytes that hold another count.
+//! The rules of the traces of document 01 and of changes 1 and 2, each alone in its sheet; and a monitor's bytes that hold another count.
 #![allow(dead_code)]
 
 use guard::MonitorBytes;
@@ -37,6 +37,26 @@ pub const O: [u8; 34] = [
 /// W: kind 1, {0[1,2], 1[2,2]} all shuffled, then {3[1,1], 4[2,2]} any shuffled, before 2.
 pub const W: [u8; 46] = [
     0x4C, 0x4F, 0x42, 2, 0, 0, 0, 0, 0, 0, 0, 0, 0, 1, 1, 2, 0, 2, 0, 0, 0, 0, 2, 2, 0, 1, 0, 2, 0, 1, 2, 0, 2, 0, 3, 2, 3, 1, 0, 1, 0, 4, 2, 0, 2, 0,
+];
+
+/// Ranges without an upper end, v = 0. E: kind 2, P = 0[2,0], Q = 9[1,2], t = 10.
+pub const E: [u8; 36] = [
+    0x4C, 0x4F, 0x42, 2, 0, 0, 2, 0, 0, 0, 0, 0, 0, 1, 2, 1, 1, 0, 10, 0, 0, 0, 0, 1, 0, 2, 0, 0, 0, 0, 1, 9, 1, 0, 2, 0,
+];
+
+/// F: P = {0[1,0], 1[1,1]} all, Q = 9[1,0], t = 10.
+pub const F: [u8; 41] = [
+    0x4C, 0x4F, 0x42, 2, 0, 0, 2, 0, 0, 0, 0, 0, 0, 1, 2, 1, 1, 0, 10, 0, 0, 0, 0, 2, 0, 1, 0, 0, 0, 1, 1, 0, 1, 0, 0, 1, 9, 1, 0, 0, 0,
+];
+
+/// G: F with P shuffled.
+pub const G: [u8; 41] = [
+    0x4C, 0x4F, 0x42, 2, 0, 0, 2, 0, 0, 0, 0, 0, 0, 1, 2, 1, 1, 0, 10, 0, 0, 0, 2, 2, 0, 1, 0, 0, 0, 1, 1, 0, 1, 0, 0, 1, 9, 1, 0, 0, 0,
+];
+
+/// H: kind 1, 0[2,0], then {1[1,0], 3[2,2]} any shuffled, before 2.
+pub const H: [u8; 41] = [
+    0x4C, 0x4F, 0x42, 2, 0, 0, 0, 0, 0, 0, 0, 0, 0, 1, 1, 2, 0, 2, 0, 0, 0, 0, 0, 1, 0, 2, 0, 0, 0, 3, 2, 1, 1, 0, 0, 0, 3, 2, 0, 2, 0,
 ];
 
 /// Where the number taken begins, four bytes: the guard's own, and known to these tests alone.
