@@ -160,7 +160,7 @@ pub fn next_state(state: u8, class: u8, join: u8, count: u16, u: u16, v: u16) ->
 const MOST_COUNT: u16 = 65535;
 
 // What is stored of a count, so many events later. "Counts may stop rising once u is reached": this one stops where it has reached every u that there is, so that it asks for no bound.
-// In this form the compiler has one instruction for it, of eight counts at once too.
+// In this form the compiler has one instruction for the sums of eight counts.
 pub fn saturating_sum(count: u16, more: u16) -> u16
     ensures { λ r. ⌜ r ≡ saturated (count + more) ⌝ }
 {

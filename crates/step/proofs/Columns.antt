@@ -181,7 +181,10 @@ module _ {rule : Rule} {st : RuleState} {S : M.RuleState} (sound : Sound rule) (
         where
           at : (k : ℕ) (a : Bool) → ltb k (size) ≡ a → (a && errsTo rule (S .fragment) (S .counts) st next k) ≡ false
           at k false q = refl
-          at k true q = let g = ltb-true k size q in let u = all→ idles (slotsOf rule S) t (numbered k) (slot-in k g) in is-false (errsTo rule (S .fragment) (S .counts) st next k) (rw (next-or (w .ranges .each k g)) at u)
+          at k true q =
+              let g = ltb-true k size q in
+              let u = all→ idles (slotsOf rule S) t (numbered k) (slot-in k g) in
+              is-false (errsTo rule (S .fragment) (S .counts) st next k) (rw (next-or (w .ranges .each k g)) at u)
 
   abbrev grows : Slot → Bool
   grows x = isCounting (move (f .join) (x .range) (x .count) (x .state) own)

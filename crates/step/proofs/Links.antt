@@ -97,7 +97,7 @@ module _ {table : List ℕ} {r : ℕ} {rule : Rule} (h : HoldsRule table r rule)
       first : (getD (st .states) 0 0 ≡ 1 → ⊥) × (getD (st .states) 0 0 ≡ 0 → ⊥)
       first = look (w .ranges .each 0 (sound .count (S .fragment) (w .inside) .0))
         where
-          look : InPlay (fragmentAt rule (S .fragment) .join) (rangeAt rule (S .fragment) 0) (getD (st .states) 0 0) (getD (S .counts) 0 0) → (getD (st .states) 0 0 ≡ 1 → ⊥) × (getD (st .states) 0 0 ≡ 0 → ⊥)
+          look : {j : Join} {r : Range} {state count : ℕ} → InPlay j r state count → (state ≡ 1 → ⊥) × (state ≡ 0 → ⊥)
           look (waits z y) = (λ q. omega (arith, z, q), λ q. omega (arith, z, q))
           look (counts z y) = (λ q. omega (arith, z, q), λ q. omega (arith, z, q))
           look (closed z y) = (λ q. omega (arith, z, q), λ q. omega (arith, z, q))
