@@ -1,6 +1,6 @@
 /* Measures the guards on the configurations of configurations.py. Prints lines of fields with tabs between them, which table.py puts into tables.
  *   bench facts     each configuration: part, title, and the numbers that go with it
- *   bench time      nanoseconds per record
+ *   bench time      nanoseconds per record, by log and live, and per sheet written back
  *   bench count     under callgrind: one dump of counts for each measurement, whose label says what was done */
 #include "contestants.h"
 
@@ -25,7 +25,7 @@ typedef struct configuration {
 
 #include "configurations.h" /* made by configurations.py */
 
-enum { CONFIGURATIONS = sizeof configurations / sizeof *configurations, TIMED_RECORDS = 20000, REPETITIONS = 25, COUNTED_RECORDS = 600 };
+enum { CONFIGURATIONS = sizeof configurations / sizeof *configurations, TIMED_RECORDS = 20000, TIMED_WRITES = 400, REPETITIONS = 25, COUNTED_RECORDS = 600 };
 
 /* ---- logs */
 
@@ -90,6 +90,12 @@ static unsigned told(uint64_t word) { return (uint8_t)word; }
         return told(id##_open(&l->id##_book, &l->id##_monitor, sheet, length)); \
     }
 
+#define WRITTEN(id)                                                      \
+    static int64_t id##_written(const lent *l, uint8_t *buffer, size_t length) \
+    {                                                                    \
+        return id##_write(&l->id##_book, buffer, length);                \
+    }
+
 SESSION(guard, guard_told)
 SESSION(hand, told)
 SESSION(hand_rs, told)
@@ -99,6 +105,10 @@ OPENED(guard, guard_told)
 OPENED(hand, told)
 OPENED(hand_rs, told)
 OPENED(cells, told)
+WRITTEN(guard)
+WRITTEN(hand)
+WRITTEN(hand_rs)
+WRITTEN(cells)
 
 static uint32_t none_run(const uint8_t *sheet, size_t sheet_length, const uint8_t *log, size_t log_length, uint32_t budget, uint8_t *out, size_t out_length)
 {
@@ -114,14 +124,22 @@ static unsigned none_opened(lent *l, const uint8_t *sheet, size_t length)
     return GUARD_WHOLE;
 }
 
+/* It writes the bytes of no sheet. */
+static int64_t none_written(const lent *l, uint8_t *buffer, size_t length)
+{
+    (void)l, (void)buffer, (void)length;
+    return 0;
+}
+
 typedef struct contestant {
     const char *name;
     uint32_t (*run)(const uint8_t *, size_t, const uint8_t *, size_t, uint32_t, uint8_t *, size_t);
     unsigned (*open)(lent *, const uint8_t *, size_t);
     size_t (*session)(lent *, const record *, size_t);
+    int64_t (*write)(const lent *, uint8_t *, size_t);
 } contestant;
 
-#define CONTESTANT(id) {#id, id##_run, id##_opened, id##_session}
+#define CONTESTANT(id) {#id, id##_run, id##_opened, id##_session, id##_written}
 static const contestant contestants[] = {CONTESTANT(guard), CONTESTANT(hand), CONTESTANT(hand_rs), CONTESTANT(cells), CONTESTANT(none)};
 enum { CONTESTANTS = sizeof contestants / sizeof *contestants };
 static lent memory;
@@ -153,6 +171,12 @@ static void live(const contestant *by, const configuration *c, const record *rec
     must(by->session(&memory, records, count) == count, by, c);
 }
 
+static void write_back(const contestant *by, const configuration *c)
+{
+    static uint8_t buffer[GUARD_SHEET_BYTES];
+    must(by->write(&memory, buffer, sizeof buffer) == (by->write == none_written ? 0 : (int64_t)c->sheet_length), by, c);
+}
+
 /* ---- time */
 
 static double now(void)
@@ -167,7 +191,7 @@ static void time_configuration(unsigned number)
 {
     const configuration *c = &configurations[number];
     log_of log = make_log(c, TIMED_RECORDS);
-    double least[CONTESTANTS][2];
+    double least[CONTESTANTS][3];
     for (unsigned r = 0; r < REPETITIONS; r++)
         for (unsigned k = 0; k < CONTESTANTS; k++) {
             double start = now();
@@ -176,13 +200,16 @@ static void time_configuration(unsigned number)
             open_session(&contestants[k], c);
             double opened = now();
             live(&contestants[k], c, log.records, log.count);
-            double spent[2] = {middle - start, now() - opened};
-            for (unsigned m = 0; m < 2; m++)
+            double seen = now();
+            for (unsigned w = 0; w < TIMED_WRITES; w++)
+                write_back(&contestants[k], c);
+            double spent[3] = {(middle - start) / (double)log.count, (seen - opened) / (double)log.count, (now() - seen) / TIMED_WRITES};
+            for (unsigned m = 0; m < 3; m++)
                 if (r == 0 || spent[m] < least[k][m])
                     least[k][m] = spent[m];
         }
     for (unsigned k = 0; k < CONTESTANTS; k++)
-        printf("%u\t%s\t%.2f\t%.2f\n", number, contestants[k].name, least[k][0] / (double)log.count, least[k][1] / (double)log.count);
+        printf("%u\t%s\t%.2f\t%.2f\t%.2f\n", number, contestants[k].name, least[k][0], least[k][1], least[k][2]);
     drop_log(log);
 }
 
@@ -196,7 +223,7 @@ static void count_from_here(char label[128], const contestant *by, unsigned numb
     CALLGRIND_ZERO_STATS;
 }
 
-/* Two lengths of each: their difference has no start-up in it. Opening is counted alone. */
+/* Two lengths of each: their difference has no start-up in it. Opening and writing back are counted alone. */
 static void count_means(const contestant *by, unsigned number)
 {
     const configuration *c = &configurations[number];
@@ -211,6 +238,9 @@ static void count_means(const contestant *by, unsigned number)
         CALLGRIND_DUMP_STATS_AT(label);
         count_from_here(label, by, number, "live", log.count);
         live(by, c, log.records, log.count);
+        CALLGRIND_DUMP_STATS_AT(label);
+        count_from_here(label, by, number, "write", log.count);
+        write_back(by, c);
         CALLGRIND_DUMP_STATS_AT(label);
         drop_log(log);
     }

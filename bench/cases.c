@@ -1,4 +1,4 @@
-/* Holds a guard to the stored cases of crates/vectors: its run of each log, and a live session over the same records. The format of the file is at the top of reference/make.py. And to two
+/* Holds a guard to the stored cases of crates/vectors: its run of each log, a live session over the same records, and each accepted sheet written back. The format of the file is at the top of reference/make.py. And to two
  * logs that no file has: more events on one name than sixteen bits count. */
 #include "contestants.h"
 
@@ -14,6 +14,7 @@ typedef struct contestant {
     uint64_t (*clock)(lent *, uint32_t);
     uint64_t (*verdict)(const lent *);
     uint32_t (*taken)(const lent *);
+    int64_t (*write)(const lent *, uint8_t *, size_t);
 } contestant;
 
 static uint64_t word(guard_answer a)
@@ -32,9 +33,10 @@ static uint64_t itself(uint64_t word)
     static uint64_t id##_sees(lent *l, uint32_t name, uint32_t time) { return as(id##_event(&l->id##_book, &l->id##_monitor, name, time)); } \
     static uint64_t id##_reads(lent *l, uint32_t time) { return as(id##_clock(&l->id##_book, &l->id##_monitor, time)); }                      \
     static uint64_t id##_says(const lent *l) { return as(id##_verdict(&l->id##_monitor)); }                                                   \
-    static uint32_t id##_took(const lent *l) { return id##_taken(&l->id##_monitor); }
+    static uint32_t id##_took(const lent *l) { return id##_taken(&l->id##_monitor); }                                                         \
+    static int64_t id##_stores(const lent *l, uint8_t *b, size_t n) { return id##_write(&l->id##_book, b, n); }
 
-#define CONTESTANT(id) {#id, id##_run, id##_opens, id##_sees, id##_reads, id##_says, id##_took}
+#define CONTESTANT(id) {#id, id##_run, id##_opens, id##_sees, id##_reads, id##_says, id##_took, id##_stores}
 
 CALLS(guard, word)
 CALLS(hand, itself)
@@ -106,6 +108,20 @@ static int session(const contestant *c, lent *l, const test *t, uint8_t out[12])
     return 1;
 }
 
+/* "writing its book gives the sheet's own bytes", into a buffer of just their length and into a longer one, whose rest stays; "16, buffer shorter than the sheet, nothing written". */
+static int writes_back(const contestant *c, const lent *l, const test *t)
+{
+    size_t n = t->sheet_length;
+    uint8_t buffer[GUARD_SHEET_BYTES + 8], before[sizeof buffer];
+    memset(before, 0xA5, sizeof before);
+    memset(buffer, 0xA5, sizeof buffer);
+    if (c->write(l, buffer, n - 1) != -16 || memcmp(buffer, before, sizeof buffer) != 0)
+        return 0;
+    if (c->write(l, buffer, n) != (int64_t)n || memcmp(buffer, t->sheet, n) != 0 || memcmp(buffer + n, before + n, sizeof buffer - n) != 0)
+        return 0;
+    return c->write(l, buffer, sizeof buffer) == (int64_t)n && memcmp(buffer, t->sheet, n) == 0 && memcmp(buffer + n, before + n, sizeof buffer - n) == 0;
+}
+
 static int agrees(const contestant *c, lent *l, const test *t)
 {
     uint8_t out[16], live[12];
@@ -115,6 +131,12 @@ static int agrees(const contestant *c, lent *l, const test *t)
     if (c->run(t->sheet, t->sheet_length, t->log, t->log_length, t->budget, out, sizeof out) != 0 || out[12] != 0xA5)
         return 0;
     return memcmp(out, t->due, 12) == 0 && session(c, l, t, live) && memcmp(live, t->due, 12) == 0;
+}
+
+/* The case's sheet is accepted. */
+static int accepted(const test *t)
+{
+    return t->due[0] != GUARD_REFUSED || t->due[1] > GUARD_LEFT_OVER;
 }
 
 /* Kind 1, 0[3,v] before 2: 65,537 events and the trigger. Without an upper end, v = 0, the log is whole; with v = 65535 the 65,536th event breaks. */
@@ -157,18 +179,18 @@ int main(int argc, char **argv)
     uint32_t count = number(cases, 4);
     for (size_t c = 0; c < sizeof contestants / sizeof *contestants; c++) {
         const uint8_t *p = cases + 8;
-        uint32_t right = 0;
+        uint32_t right = 0, sheets = 0, written = 0;
         for (uint32_t i = 0; i < count; i++) {
             test t;
             p = next_case(p, &t);
-            if (agrees(&contestants[c], &l, &t))
-                right++;
-            else if (!failed++)
+            int stored = agrees(&contestants[c], &l, &t), back = accepted(&t) && writes_back(&contestants[c], &l, &t);
+            right += (uint32_t)stored, sheets += (uint32_t)accepted(&t), written += (uint32_t)back;
+            if ((!stored || back != accepted(&t)) && !failed++)
                 fprintf(stderr, "%s: first at case %u\n", contestants[c].name, i);
         }
         int both = agrees_long(&contestants[c], &l, 0) && agrees_long(&contestants[c], &l, UINT16_MAX);
         failed += !both;
-        printf("%s: %u of %u cases as due, and more than 65,536 events on one name %s\n", contestants[c].name, right, count, both ? "too" : "NOT");
+        printf("%s: %u of %u cases as due, %u of %u sheets written back, and more than 65,536 events on one name %s\n", contestants[c].name, right, count, written, sheets, both ? "too" : "NOT");
     }
     return failed != 0;
 }

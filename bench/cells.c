@@ -1,5 +1,5 @@
-/* The guard of document 01 by hand with cells and masks, with the shuffled fragments of document 02 and its ranges without an upper end: the sheet's reader, a rule's step, observing and running a log. Words in quotes are
- * document 01's. */
+/* The guard of document 01 by hand with cells and masks, with the shuffled fragments of document 02, its ranges without an upper end and its sheet writer: the sheet's reader, a rule's step,
+ * observing, running a log and writing a sheet back. Words in quotes are document 01's. */
 #include "cells.h"
 
 #include <stdbool.h>
@@ -26,6 +26,7 @@ typedef struct reader {
     size_t length, at;
     uint64_t outputs;
     uint64_t used; /* the names of the rule so far */
+    uint16_t version;
     uint8_t last_join;
     bool endless; /* a range may have no upper end */
     uint8_t fault;
@@ -111,6 +112,7 @@ static bool read_version(reader *r)
         return false;
     if (x != 1 && x != 2)
         return refuse(r, 3);
+    r->version = (uint16_t)x;
     r->last_join = x == 1 ? 1 : 3;
     r->endless = x > 1;
     return pass(r, 2);
@@ -120,6 +122,7 @@ static bool read_version(reader *r)
 typedef struct reading {
     cells_cell *cells;
     uint8_t kind, in_p, in_round; /* fragments in P, and in P and Q */
+    uint8_t trigger;              /* 0 of a timed rule */
     uint32_t limit;
 } reading;
 
@@ -155,6 +158,7 @@ static bool read_fragment(reader *r, reading *rule, unsigned f)
     if (!between(r, 0, r->last_join, &join) || !between(r, 1, CELLS_RANGES, &count))
         return false;
     c.flags |= join & MIXED ? SHUFFLED : 0;
+    c.join = join, c.count = count;
     for (unsigned i = 0; i < count; i++) {
         if (!name_field(r, c.flags & OF_Q ? ~r->outputs : 0, &name) || !bound(r, 1, false, &u) || !bound(r, u, r->endless, &v))
             return false;
@@ -183,6 +187,7 @@ static bool read_requirement(reader *r, reading *rule)
         return false;
     rule->in_round = rule->in_p + 1;
     rule->limit = 0;
+    rule->trigger = trigger;
     cells_cell c = {.fragment = rule->in_p, .before = (uint8_t)(rule->in_p - 1), .flags = rule->kind == ONCE ? RELEASES : 0};
     put_cell(rule, c, false, 1, 0, trigger, 1, 1);
     return true;
@@ -203,6 +208,13 @@ static bool read_rule(reader *r, reading *rule)
     return true;
 }
 
+/* A rule's eight bytes as one number. */
+static uint64_t head_of(const reading *rule)
+{
+    uint8_t in_q = rule->kind == TIMED ? (uint8_t)(rule->in_round - rule->in_p) : 0;
+    return rule->kind | (uint64_t)rule->in_p << 8 | (uint64_t)in_q << 16 | (uint64_t)rule->trigger << 24 | (uint64_t)rule->limit << 32;
+}
+
 static bool read_sheet(reader *r, cells_book *book)
 {
     if (!exactly(r, 3, 0x424F4C, 2) || !read_version(r) || !field(r, 8, &r->outputs))
@@ -210,6 +222,8 @@ static bool read_sheet(reader *r, cells_book *book)
     pass(r, 8);
     if (!between(r, 1, CELLS_RULES, &book->count))
         return false;
+    book->version = r->version;
+    book->outputs = r->outputs;
     memset(book->holders, 0, sizeof book->holders);
     for (unsigned k = 0; k < book->count; k++) {
         reading rule = {.cells = book->cells[k]};
@@ -217,6 +231,7 @@ static bool read_sheet(reader *r, cells_book *book)
             return false;
         book->last[k] = (uint8_t)(rule.in_round - 1);
         book->limits[k] = rule.limit;
+        book->heads[k] = head_of(&rule);
         for (uint64_t names = r->used; names != 0; names &= names - 1)
             book->holders[__builtin_ctzll(names)] |= (uint16_t)(1u << k);
     }
@@ -445,4 +460,79 @@ uint32_t cells_run(const uint8_t *sheet, size_t sheet_length, const uint8_t *log
     uint32_t records = (uint32_t)(log_length / 5);
     play(&book, log, budget < records ? budget : records, out);
     return 0;
+}
+
+/* ---- writing a sheet back */
+
+/* The names by their places, since the cells are by names. */
+typedef struct places {
+    uint8_t names[CELLS_RULES][16][CELLS_RANGES];
+} places;
+
+static void put_places(const cells_book *book, places *p)
+{
+    for (unsigned name = 0; name < CELLS_NAMES; name++)
+        for (unsigned todo = book->holders[name]; todo != 0; todo &= todo - 1) {
+            unsigned r = (unsigned)__builtin_ctz(todo);
+            const cells_cell *c = &book->cells[r][name];
+            p->names[r][c->fragment][c->range] = (uint8_t)name;
+        }
+}
+
+/* Fragments of a rule in the sheet: a trigger's is not there. */
+static inline unsigned in_sheet(uint64_t head)
+{
+    return (uint8_t)(head >> 8) + (unsigned)(uint8_t)(head >> 16);
+}
+
+static size_t size_of(const cells_book *book, const places *p)
+{
+    size_t size = 14;
+    for (unsigned r = 0; r < book->count; r++) {
+        size += 8;
+        for (unsigned f = 0; f < in_sheet(book->heads[r]); f++)
+            size += 2 + 5 * (size_t)book->cells[r][p->names[r][f][0]].count;
+    }
+    return size;
+}
+
+/* A number's bytes, and where the next ones go. */
+static inline uint8_t *append(uint8_t *out, uint64_t x, size_t n)
+{
+    for (size_t i = 0; i < n; i++)
+        out[i] = (uint8_t)(x >> 8 * i);
+    return out + n;
+}
+
+static uint8_t *append_fragment(uint8_t *out, const cells_cell *cells, const uint8_t *names)
+{
+    const cells_cell *first = &cells[names[0]];
+    unsigned count = first->count;
+    out = append(out, first->join, 1);
+    out = append(out, count, 1);
+    for (unsigned i = 0; i < count; i++) {
+        out = append(out, names[i], 1);
+        out = append(out, cells[names[i]].u, 2);
+        out = append(out, cells[names[i]].v, 2);
+    }
+    return out;
+}
+
+int64_t cells_write(const cells_book *book, uint8_t *buffer, size_t length)
+{
+    places p;
+    put_places(book, &p);
+    size_t size = size_of(book, &p);
+    if (length < size)
+        return -16;
+    uint8_t *out = append(buffer, 0x424F4C, 3);
+    out = append(out, book->version, 2);
+    out = append(out, book->outputs, 8);
+    out = append(out, book->count, 1);
+    for (unsigned r = 0; r < book->count; r++) {
+        out = append(out, book->heads[r], 8);
+        for (unsigned f = 0; f < in_sheet(book->heads[r]); f++)
+            out = append_fragment(out, book->cells[r], p.names[r][f]);
+    }
+    return (int64_t)size;
 }

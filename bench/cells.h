@@ -18,6 +18,7 @@ typedef struct cells_cell {
     uint8_t flags;
     uint8_t lacking, full; /* what the two masks are if this event begins the fragment */
     uint8_t standing[3];   /* of the rule after this event: the fragment lacks something; it may be followed; it may, and takes no more */
+    uint8_t join, count;   /* of the fragment, as the sheet has them */
 } cells_cell;
 
 typedef struct cells_book {
@@ -26,6 +27,9 @@ typedef struct cells_book {
     uint32_t limits[CELLS_RULES];               /* t */
     uint16_t holders[CELLS_NAMES];              /* bit r: rule r has this name */
     cells_cell cells[CELLS_RULES][CELLS_NAMES]; /* made for the names that the rule has */
+    uint16_t version;                           /* of the sheet, which writing gives back, */
+    uint64_t outputs;                           /* its outputs, */
+    uint64_t heads[CELLS_RULES];                /* and the eight bytes of each rule */
 } cells_book;
 
 /* Of a rule. The two masks say all that an event asks of the eight recogniser states: `full` has the ranges to which one more event is an error, `lacking` those to which the next
@@ -56,5 +60,8 @@ uint64_t cells_event(const cells_book *book, cells_monitor *m, uint32_t name, ui
 uint64_t cells_clock(const cells_book *book, cells_monitor *m, uint32_t time);
 uint64_t cells_verdict(const cells_monitor *m);
 uint32_t cells_taken(const cells_monitor *m);
+
+/* The sheet's own bytes: their number, or -16 and nothing is written, as guard_write. */
+int64_t cells_write(const cells_book *book, uint8_t *buffer, size_t length);
 
 #endif

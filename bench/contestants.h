@@ -23,6 +23,7 @@ uint64_t hand_rs_event(const hand_rs_book *book, hand_rs_monitor *m, uint32_t na
 uint64_t hand_rs_clock(const hand_rs_book *book, hand_rs_monitor *m, uint32_t time);
 uint64_t hand_rs_verdict(const hand_rs_monitor *m);
 uint32_t hand_rs_taken(const hand_rs_monitor *m);
+int64_t hand_rs_write(const hand_rs_book *book, uint8_t *buffer, size_t length);
 
 /* bench/none.c: a guard that does nothing. */
 typedef struct none_book {

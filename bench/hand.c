@@ -1,5 +1,5 @@
-/* The guard of document 01 by hand, with the shuffled fragments of document 02 and its ranges without an upper end: the sheet's reader, the six-state recogniser, observing and running a log. Words in quotes are document
- * 01's. */
+/* The guard of document 01 by hand, with the shuffled fragments of document 02, its ranges without an upper end and its sheet writer: the sheet's reader, the six-state recogniser, observing,
+ * running a log and writing a sheet back. Words in quotes are document 01's. */
 #include "hand.h"
 
 #include <string.h>
@@ -22,6 +22,7 @@ typedef struct reader {
     size_t length, at;
     uint64_t outputs;
     uint64_t used; /* the names of the rule so far */
+    uint16_t version;
     uint8_t last_join;
     bool endless; /* a range may have no upper end */
     uint8_t fault;
@@ -107,6 +108,7 @@ static bool read_version(reader *r)
         return false;
     if (x != 1 && x != 2)
         return refuse(r, 3);
+    r->version = (uint16_t)x;
     r->last_join = x == 1 ? 1 : 3;
     r->endless = x > 1;
     return pass(r, 2);
@@ -157,6 +159,12 @@ static bool read_requirement(reader *r, hand_rule *rule)
     return true;
 }
 
+/* Fragments of a rule in the sheet: a trigger's is not there. */
+static inline unsigned in_sheet(const hand_rule *rule)
+{
+    return rule->kind == TIMED ? rule->in_round : rule->in_p;
+}
+
 static bool read_rule(reader *r, hand_rule *rule)
 {
     r->used = 0;
@@ -165,8 +173,8 @@ static bool read_rule(reader *r, hand_rule *rule)
     bool timed = rule->kind == TIMED;
     if (!(timed ? read_timed(r, rule) : read_requirement(r, rule)))
         return false;
-    unsigned in_sheet = timed ? rule->in_round : rule->in_p;
-    for (unsigned f = 0; f < in_sheet; f++)
+    unsigned count = in_sheet(rule);
+    for (unsigned f = 0; f < count; f++)
         if (!read_fragment(r, f >= rule->in_p, &rule->fragments[f]))
             return false;
     return true;
@@ -179,6 +187,8 @@ static bool read_sheet(reader *r, hand_book *book)
     pass(r, 8);
     if (!between(r, 1, HAND_RULES, &book->count))
         return false;
+    book->version = r->version;
+    book->outputs = r->outputs;
     memset(book->holders, 0, sizeof book->holders);
     for (unsigned k = 0; k < book->count; k++) {
         if (!read_rule(r, &book->rules[k]))
@@ -482,4 +492,65 @@ uint32_t hand_run(const uint8_t *sheet, size_t sheet_length, const uint8_t *log,
     uint32_t records = (uint32_t)(log_length / 5);
     play(&book, log, budget < records ? budget : records, out);
     return 0;
+}
+
+/* ---- writing a sheet back */
+
+/* A number's bytes, and where the next ones go. */
+static inline uint8_t *append(uint8_t *out, uint64_t x, size_t n)
+{
+    for (size_t i = 0; i < n; i++)
+        out[i] = (uint8_t)(x >> 8 * i);
+    return out + n;
+}
+
+static size_t size_of(const hand_book *book)
+{
+    size_t size = 14;
+    for (unsigned k = 0; k < book->count; k++) {
+        const hand_rule *rule = &book->rules[k];
+        size += 8;
+        for (unsigned f = 0; f < in_sheet(rule); f++)
+            size += 2 + 5 * (size_t)rule->fragments[f].count;
+    }
+    return size;
+}
+
+static uint8_t *append_fragment(uint8_t *out, const hand_fragment *f)
+{
+    out = append(out, (f->any ? ANY : 0) | (f->shuffled ? MIXED : 0), 1);
+    out = append(out, f->count, 1);
+    for (unsigned i = 0; i < f->count; i++) {
+        out = append(out, f->ranges[i].name, 1);
+        out = append(out, f->ranges[i].u, 2);
+        out = append(out, f->ranges[i].v, 2);
+    }
+    return out;
+}
+
+static uint8_t *append_rule(uint8_t *out, const hand_rule *rule)
+{
+    bool timed = rule->kind == TIMED;
+    out = append(out, rule->kind, 1);
+    out = append(out, rule->in_p, 1);
+    out = append(out, timed ? (uint8_t)(rule->in_round - rule->in_p) : 0, 1);
+    out = append(out, timed ? 0 : rule->fragments[rule->in_p].ranges[0].name, 1);
+    out = append(out, rule->limit, 4);
+    for (unsigned f = 0; f < in_sheet(rule); f++)
+        out = append_fragment(out, &rule->fragments[f]);
+    return out;
+}
+
+int64_t hand_write(const hand_book *book, uint8_t *buffer, size_t length)
+{
+    size_t size = size_of(book);
+    if (length < size)
+        return -16;
+    uint8_t *out = append(buffer, 0x424F4C, 3);
+    out = append(out, book->version, 2);
+    out = append(out, book->outputs, 8);
+    out = append(out, book->count, 1);
+    for (unsigned k = 0; k < book->count; k++)
+        out = append_rule(out, &book->rules[k]);
+    return (int64_t)size;
 }

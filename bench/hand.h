@@ -34,6 +34,8 @@ typedef struct hand_book {
     uint8_t count; /* of rules */
     hand_rule rules[HAND_RULES];
     uint16_t holders[HAND_NAMES]; /* bit r: rule r has this name */
+    uint16_t version;             /* of the sheet, which writing gives back, */
+    uint64_t outputs;             /* and its outputs */
 } hand_book;
 
 /* "The monitor's state holds, for each rule, its fragment number, eight recogniser states, one count and the end time of P"; by document 02 "eight counts for a fragment
@@ -63,5 +65,8 @@ uint64_t hand_event(const hand_book *book, hand_monitor *m, uint32_t name, uint3
 uint64_t hand_clock(const hand_book *book, hand_monitor *m, uint32_t time);
 uint64_t hand_verdict(const hand_monitor *m);
 uint32_t hand_taken(const hand_monitor *m);
+
+/* The sheet's own bytes: their number, or -16 and nothing is written, as guard_write. */
+int64_t hand_write(const hand_book *book, uint8_t *buffer, size_t length);
 
 #endif

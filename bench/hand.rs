@@ -1,4 +1,5 @@
-//! The guard of document 01 by hand in Rust, with the shuffled fragments of document 02 and its ranges without an upper end: the same tables and masks as bench/hand.c. Words in quotes are document 01's.
+//! The guard of document 01 by hand in Rust, with the shuffled fragments of document 02, its ranges without an upper end and its sheet writer: the same tables and masks as bench/hand.c. Words
+//! in quotes are document 01's.
 
 use std::mem::MaybeUninit;
 
@@ -27,6 +28,10 @@ impl Join {
 
     fn from_number(n: u8) -> Join {
         Join { any: n & 1 == 1, shuffled: n & 2 == 2 }
+    }
+
+    fn number(self) -> u8 {
+        u8::from(self.any) | u8::from(self.shuffled) << 1
     }
 }
 
@@ -86,6 +91,11 @@ struct Rule {
 }
 
 impl Rule {
+    /// Those of the sheet: a trigger's fragment is not there.
+    fn fragments(&self) -> &[Fragment] {
+        &self.fragments[..usize::from(if self.kind == Kind::Timed { self.in_round } else { self.in_p })]
+    }
+
     const EMPTY: Rule = Rule { kind: Kind::Once, in_p: 0, in_round: 0, limit: 0, fragments: [Fragment::EMPTY; FRAGMENTS] };
 }
 
@@ -94,6 +104,9 @@ pub struct Book {
     rules: [Rule; RULES],
     /// Bit r: rule r has this name.
     holders: [u16; NAMES],
+    /// The sheet's version and outputs, which writing gives back.
+    version: u16,
+    outputs: Names,
 }
 
 // ---- the sheet
@@ -110,6 +123,7 @@ struct Reader<'a> {
     outputs: Names,
     /// The names of the rule so far.
     used: Names,
+    version: u16,
     last_join: u64,
     /// A range may have no upper end.
     endless: bool,
@@ -162,6 +176,7 @@ impl Reader<'_> {
     /// The version says which joins there are: 0 and 1, and from version 2 on the shuffled ones; and from version 2 on a range may have no upper end.
     fn version(&mut self) -> Result<(), Fault> {
         let version = self.field(2, |x| if x == 1 || x == 2 { 0 } else { 3 })?;
+        self.version = version as u16;
         self.last_join = if version == 1 { 1 } else { 3 };
         self.endless = version > 1;
         Ok(())
@@ -212,7 +227,8 @@ impl Reader<'_> {
         self.exactly(3, 0x424F4C, 2)?;
         self.version()?;
         self.outputs = Names(self.field(8, |_| 0)?);
-        let mut book = Book { count: self.between(1, 16)?, rules: [Rule::EMPTY; RULES], holders: [0; NAMES] };
+        let (version, outputs) = (self.version, self.outputs);
+        let mut book = Book { count: self.between(1, 16)?, rules: [Rule::EMPTY; RULES], holders: [0; NAMES], version, outputs };
         for r in 0..usize::from(book.count) {
             book.rules[r] = self.rule()?;
             for name in 0..NAMES as u8 {
@@ -227,7 +243,7 @@ impl Reader<'_> {
 }
 
 fn read(sheet: &[u8]) -> Result<Book, Fault> {
-    Reader { sheet, at: 0, outputs: Names(0), used: Names(0), last_join: 0, endless: false }.book()
+    Reader { sheet, at: 0, outputs: Names(0), used: Names(0), version: 0, last_join: 0, endless: false }.book()
 }
 
 // ---- the recogniser of a range
@@ -542,6 +558,66 @@ fn run(sheet: &[u8], log: &[u8], budget: u32) -> Outcome {
     }
 }
 
+// ---- writing a sheet back
+
+/// A buffer that is filled from its start.
+struct Writer<'a> {
+    buffer: &'a mut [u8],
+    at: usize,
+}
+
+impl Writer<'_> {
+    fn put<const N: usize>(&mut self, bytes: [u8; N]) {
+        self.buffer[self.at..self.at + N].copy_from_slice(&bytes);
+        self.at += N;
+    }
+
+    fn fragment(&mut self, fragment: &Fragment) {
+        self.put([fragment.join.number(), fragment.count]);
+        for range in fragment.ranges() {
+            self.put([range.name]);
+            self.put(range.u.to_le_bytes());
+            self.put(range.v.to_le_bytes());
+        }
+    }
+
+    fn rule(&mut self, rule: &Rule) {
+        let (in_q, trigger) = match rule.kind {
+            Kind::Timed => (rule.in_round - rule.in_p, 0),
+            _ => (0, rule.fragments[usize::from(rule.in_p)].ranges[0].name),
+        };
+        self.put([rule.kind as u8, rule.in_p, in_q, trigger]);
+        self.put(rule.limit.to_le_bytes());
+        rule.fragments().iter().for_each(|fragment| self.fragment(fragment));
+    }
+}
+
+impl Book {
+    fn rules(&self) -> &[Rule] {
+        &self.rules[..usize::from(self.count)]
+    }
+
+    fn size(&self) -> usize {
+        let of_rule = |rule: &Rule| 8 + rule.fragments().iter().map(|f| 2 + 5 * usize::from(f.count)).sum::<usize>();
+        14 + self.rules().iter().map(of_rule).sum::<usize>()
+    }
+
+    /// The number of bytes, or the refusal 16.
+    fn write(&self, buffer: &mut [u8]) -> Result<usize, u8> {
+        let size = self.size();
+        if buffer.len() < size {
+            return Err(16);
+        }
+        let mut w = Writer { buffer, at: 0 };
+        w.put(*b"LOB");
+        w.put(self.version.to_le_bytes());
+        w.put(self.outputs.0.to_le_bytes());
+        w.put([self.count]);
+        self.rules().iter().for_each(|rule| w.rule(rule));
+        Ok(size)
+    }
+}
+
 // ---- what C calls: answers as in bench/hand.h
 
 fn word(answer: u8, refusal: u8, mask: u16, place: u32) -> u64 {
@@ -608,6 +684,17 @@ pub extern "C" fn hand_rs_verdict(m: &Monitor) -> u64 {
 #[no_mangle]
 pub extern "C" fn hand_rs_taken(m: &Monitor) -> u32 {
     m.taken
+}
+
+/// # Safety
+/// The buffer is valid for its length, and apart from the book.
+#[no_mangle]
+pub unsafe extern "C" fn hand_rs_write(book: &Book, buffer: *mut u8, length: usize) -> i64 {
+    let buffer = if length == 0 { &mut [] } else { unsafe { std::slice::from_raw_parts_mut(buffer, length) } };
+    match book.write(buffer) {
+        Ok(bytes) => bytes as i64,
+        Err(refusal) => -i64::from(refusal),
+    }
 }
 
 // What the host lends (bench/contestants.h) is large enough.

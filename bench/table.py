@@ -24,7 +24,7 @@ Facts = namedtuple('Facts', 'number part title figure_ops figure_bits table_ops 
 
 
 # ---------------------------------------------------------------------------------------------
-# What was measured: each a value by way ('run', 'live'), guard and configuration
+# What was measured: each a value by way ('run', 'live' and 'write'), guard and configuration
 # ---------------------------------------------------------------------------------------------
 
 def lines(path):
@@ -37,10 +37,10 @@ def read_facts(folder):
 
 
 def read_times(path):
-    """Nanoseconds per record: the least of the runs."""
+    """Nanoseconds per record, or per sheet written: the least of the runs."""
     times = {}
-    for number, guard, run, live in lines(path):
-        for way, ns in (('run', run), ('live', live)):
+    for number, guard, *spent in lines(path):
+        for way, ns in zip(('run', 'live', 'write'), spent):
             key = way, guard, int(number)
             times[key] = min(float(ns), times.get(key, math.inf))
     return times
@@ -70,12 +70,14 @@ def read_operations(dumps, code, callers):
 
 
 def means(counts):
-    """Instructions per record: the difference of two lengths; for a session less that of the call that does nothing."""
+    """Instructions per record: the difference of two lengths; for a session less that of the call that does nothing. Of a sheet written back, which is counted twice, all of them."""
     out = {}
     for key, of in counts.items():
         if key[0] in ('run', 'live'):
             (short, low), (long, high) = sorted(of.items())
             out[key] = (high - low) / (long - short)
+        elif key[0] == 'write':
+            out[key] = min(of.values())
     for way, guard, number in out:
         if way == 'live' and guard != 'none':
             out[way, guard, number] -= out[way, 'none', number]
@@ -97,8 +99,8 @@ def most_operations(ops, guard, number):
 
 
 def typical(times, guard):
-    """One number for all times of a guard: the mean of their logarithms, back in nanoseconds."""
-    logs = [math.log(ns) for (_, g, _), ns in times.items() if g == guard]
+    """One number for all times of a guard, those of records: the mean of their logarithms, back in nanoseconds."""
+    logs = [math.log(ns) for (way, g, _), ns in times.items() if g == guard and way != 'write']
     return math.exp(sum(logs) / len(logs))
 
 
@@ -136,6 +138,14 @@ def print_way(way, title, facts, times, mean):
     table(['configuration'] + head + ['cells ns', 'cells instr.', 'guard/cells instr.'], rows)
 
 
+def different(facts, mean):
+    """The first configuration of each different sheet, told apart by what writing it costs."""
+    costs = {}
+    for f in facts:
+        costs.setdefault(tuple(mean['write', g, f.number] for g in (*GUARDS, 'cells')), f)
+    return list(costs.values())
+
+
 def paper_row(f, counts, ops):
     state = RULE_BITS * f.rules + SHARED_BITS
     figure_ops, table_ops, figure_bits, table_bits = (str(n or '') for n in (f.figure_ops, f.table_ops, f.figure_bits, f.table_bits))
@@ -169,9 +179,9 @@ def print_opening(facts, counts):
     table(['configuration'] + [g + ' instr.' for g in GUARDS.values()] + ['guard/C', 'guard/Rust', 'cells instr.'], rows)
 
 
-def largest(facts, values, guard):
+def largest(facts, values, guard, ways=('run', 'live')):
     """The largest quotient of the proved guard by another, and where it is."""
-    ratio, way, f = max(((values[way, 'guard', f.number] / values[way, guard, f.number], way, f) for way in ('run', 'live') for f in facts), key=lambda x: x[0])
+    ratio, way, f = max(((values[way, 'guard', f.number] / values[way, guard, f.number], way, f) for way in ways for f in facts), key=lambda x: x[0])
     return '%.2f (%s, %s)' % (ratio, way, f.title)
 
 
@@ -179,6 +189,7 @@ def print_reach(facts, times, mean, ops):
     """The two goals: guard/C at most 1.2, and no record above a paper's operations. Beside them the C with cells, of which no goal is set."""
     print('- Largest guard/C in nanoseconds: %s.' % largest(facts, times, 'hand'))
     print('- Largest guard/C in instructions: %s.' % largest(facts, mean, 'hand'))
+    print('- Largest guard/C of a sheet written back: in nanoseconds %s, in instructions %s.' % tuple(largest(different(facts, mean), values, 'hand', ('write',)) for values in (times, mean)))
     print('- Largest guard/cells: in instructions %s, in nanoseconds %s.' % (largest(facts, mean, 'cells'), largest(facts, times, 'cells')))
     for which, what in ((1, 'the rule itself'), (0, 'the whole call')):
         above = [f.title for f in facts if f.part == 'paper'
@@ -199,6 +210,7 @@ def main(folder):
     print_way('live', 'Live session, per record', facts, fastest, mean)
     print_papers(facts, counts, ops)
     print_opening(facts, counts)
+    print_way('write', 'Writing a book back, per sheet', different(facts, mean), fastest, mean)
     print_reach(facts, fastest, mean, ops)
     print('- The host\'s loop with a call that does nothing: %.1f ns and %.1f instructions per record.'
           % (fastest['live', 'none', 0], mean['live', 'none', 0]))

@@ -1,4 +1,5 @@
-"""What the checks of examples/styles and examples/progress share: an example of two sheets, the second the version 1 that would not do, and a live host.
+"""What the checks of examples/styles and examples/progress share: an example of two sheets, the second the version 1 that would not do, and a live host. Of this, examples/review takes
+what goes by log.
 
 1. The reference gives the verdict of every 'due' line of the text, and README.md has the row of every log.
 2. So does the program, where one is given: GUARD_PROGRAM is a path to it.

@@ -1,4 +1,4 @@
-/* The guard for C and C++ hosts: one call over a stored log, and a live session over memory that the host lends.
+/* The guard for C and C++ hosts: one call over a stored log, a live session over memory that the host lends, and the sheet of an opened book, written back.
  * Link with target/libguard.a, which `hosts/build` proves and writes (x86-64). docs/EMBEDDING.md says what a host does at each answer, what is proved, and what the
  * host must keep true; docs/SHEETS.md has the formats of sheets and logs, and every refusal with an example. */
 #ifndef GUARD_H
@@ -13,8 +13,9 @@ extern "C" {
 
 /* ---- versions */
 
-/* This header's library. It rises with each call that is added or changed, as opening is by the sheets that it reads, and with the memory that a host lends. From 5 on v = 0 is read. */
-#define GUARD_LIBRARY_VERSION 5
+/* This header's library. It rises with each call that is added or changed, as opening is by the sheets that it reads, and with the memory that a host lends. From 5 on v = 0 is read,
+ * and 6 has guard_write. */
+#define GUARD_LIBRARY_VERSION 6
 
 /* The newest version of a sheet that this library reads; each older one is read too. Version 2 has shuffled fragments and ranges without an upper end. */
 #define GUARD_SHEET_VERSION 2
@@ -27,8 +28,8 @@ uint32_t guard_sheet_version(void);
 #define GUARD_BOOK_WORDS 1106
 #define GUARD_MONITOR_BYTES 528
 
-/* The calls as the library has them: a book is so many words, a monitor so many bytes, and an answer's four fields are one number, lowest first. The number in their names is that
- * of this layout, so that a header and a library of different layouts do not link. Use the functions below, whose names stay. */
+/* The calls as the library has them: a book is so many words, a monitor so many bytes, and an answer's four fields are one number, lowest first; guard4_write answers minus 16 as
+ * 2^64 - 16. The number in their names is that of this layout, so that a header and a library of different layouts do not link. Use the functions below, whose names stay. */
 uint32_t guard4_run(const uint8_t *sheet, size_t sheet_length, const uint8_t *log, size_t log_length, uint32_t budget, uint8_t *out, size_t out_length);
 uint64_t guard4_open(const uint8_t *sheet, size_t sheet_length, uint64_t *book, uint8_t *monitor);
 void guard4_start(uint8_t *monitor);
@@ -36,6 +37,7 @@ uint64_t guard4_event(const uint64_t *book, uint8_t *monitor, uint32_t name, uin
 uint64_t guard4_clock(const uint64_t *book, uint8_t *monitor, uint32_t time);
 uint64_t guard4_verdict(const uint8_t *monitor);
 uint32_t guard4_taken(const uint8_t *monitor);
+uint64_t guard4_write(const uint64_t *book, uint8_t *buffer, size_t length);
 
 /* ---- answers */
 
@@ -46,8 +48,8 @@ enum {
     GUARD_REFUSED = 3  /* nothing has changed; `refusal` says why */
 };
 
-/* Refusals, "Where each refusal is found". 1 to 10 are a sheet's, 11 to 13 an observation's, 14 a log's, 15 an output's. docs/SHEETS.md has an example of each, and `./run` takes
- * its words from this table. */
+/* Refusals, "Where each refusal is found". 1 to 10 are a sheet's, 11 to 13 an observation's, 14 a log's, 15 an output's, 16 the buffer's of
+ * guard_write. docs/SHEETS.md has an example of each, and `./run` takes its words from this table. */
 enum {
     GUARD_TRUNCATED = 1,      /* a field doesn't fit in the bytes left */
     GUARD_MARK = 2,           /* the mark is not "LOB" */
@@ -63,7 +65,8 @@ enum {
     GUARD_NAME_UNKNOWN = 12,  /* a name of 64 or more */
     GUARD_COUNT_FULL = 13,    /* 4,294,967,295 observations are already taken */
     GUARD_LOG_LENGTH = 14,    /* the log's length is no multiple of 5, or above 4,294,967,295 bytes */
-    GUARD_OUTPUT = 15         /* the output has under 12 bytes */
+    GUARD_OUTPUT = 15,        /* the output has under 12 bytes */
+    GUARD_BUFFER = 16         /* the buffer is shorter than the sheet */
 };
 
 /* A refusal's text, in one line and without its place; "unknown refusal" for any other number, 0 too. */
@@ -85,8 +88,9 @@ static inline const char *guard_refusal_text(uint32_t number)
         "4,294,967,295 observations are already taken",
         "the log's length is no multiple of 5, or above 4,294,967,295",
         "the output has under 12 bytes",
+        "the buffer is shorter than the sheet",
     };
-    return number >= GUARD_TRUNCATED && number <= GUARD_OUTPUT ? texts[number - GUARD_TRUNCATED] : "unknown refusal";
+    return number >= GUARD_TRUNCATED && number <= GUARD_BUFFER ? texts[number - GUARD_TRUNCATED] : "unknown refusal";
 }
 
 /* ---- one call over a log */
@@ -171,6 +175,18 @@ static inline guard_answer guard_verdict(const guard_monitor *monitor)
 static inline uint32_t guard_taken(const guard_monitor *monitor)
 {
     return guard4_taken(monitor->bytes);
+}
+
+/* ---- a book written back */
+
+/* Writes the sheet of a book that guard_open made into the buffer: its own bytes, in its own version. The answer is their number, and later bytes of the buffer stay as they were.
+ * Or it is -16, and nothing is written: the buffer is shorter than the sheet. Just the sheet's length is enough, and GUARD_SHEET_BYTES always is. The written bytes open into the same
+ * book. Book and buffer do not overlap. For a book that guard_open did not make the number and the bytes are free: the call returns, the number is -16 or at most `length`, and nothing past
+ * so many bytes of the buffer is written. */
+static inline int64_t guard_write(const guard_book *book, uint8_t *buffer, size_t length)
+{
+    uint64_t word = guard4_write(book->words, buffer, length);
+    return word >> 63 ? -(int64_t)~word - 1 : (int64_t)word;
 }
 
 #ifdef __cplusplus

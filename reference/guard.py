@@ -1,4 +1,4 @@
-"""The guard of document 01, with changes 1 and 2 of document 02, written a second time from its definitions.
+"""The guard of document 01, with changes 1 to 3 of document 02, written a second time from its definitions.
 
 Nothing here knows of recogniser states, of a move table or of a translated book. A sheet is read
 field by field; a rule is judged by cutting the list of its own events into rounds, fragments and
@@ -127,6 +127,33 @@ def read_sheet(data):
     if f.next < len(data):
         raise Refused(10, f.next)
     return Sheet(outputs, rules, version)
+
+
+# ---------------------------------------------------------------------------------------------
+# The sheet's bytes again (change 3)
+# ---------------------------------------------------------------------------------------------
+
+def fragment_bytes(fragment):
+    return bytes([fragment.join, len(fragment.ranges)]) + b''.join(struct.pack('<BHH', r.name, r.u, r.v) for r in fragment.ranges)
+
+
+def rule_bytes(rule):
+    head = struct.pack('<BBBBI', rule.kind, len(rule.p), len(rule.q), rule.trigger, rule.t)
+    return head + b''.join(fragment_bytes(fragment) for fragment in rule.p + rule.q)
+
+
+def write(sheet):
+    """The bytes of a sheet, in its own version."""
+    return b'LOB' + struct.pack('<HQB', sheet.version, sheet.outputs, len(sheet.rules)) + b''.join(rule_bytes(rule) for rule in sheet.rules)
+
+
+def write_into(sheet, buffer):
+    """The number of bytes written, or -16 where the buffer, a bytearray, is shorter than the sheet: then nothing is."""
+    data = write(sheet)
+    if len(buffer) < len(data):
+        return -16
+    buffer[:len(data)] = data
+    return len(data)
 
 
 # ---------------------------------------------------------------------------------------------

@@ -20,6 +20,7 @@ from collections import Counter, namedtuple
 
 import guard
 import words
+import writing
 from endless import SCENARIOS, endless_cases
 from guard import (ALL, ALL_SHUFFLED, ANY, ANY_SHUFFLED, BROKEN, CLOCK, IN_ANY_MIX, JOINS, MOST, OPEN, REFUSED, Fragment, Range,
                    Refused, Rule, Sheet)
@@ -417,6 +418,8 @@ def case_bytes(case, result, why):
                      struct.pack('<I', case.budget), guard.answer_bytes(result), bytes([why])))
 
 
+WRITTEN = 'books written back'     # change 3: each accepted case's
+
 # What changes 1 and 2 bring, by a word for each. 'join 2 is not 0': with join 0 in the place of 2 the case is due something else; 'no upper end is not u': with v = u in the place of v = 0.
 SWAPS = {'join 2 is not 0': (ALL_SHUFFLED, ALL), 'join 3 is not 1': (ANY_SHUFFLED, ANY),
          'join 2 is not 3': (ALL_SHUFFLED, ANY_SHUFFLED), 'join 3 is not 2': (ANY_SHUFFLED, ALL_SHUFFLED)}
@@ -481,6 +484,8 @@ def features(case, result, why):
         if refusal.number in (3, 4, 7):
             yield from refused_value(case, refusal, version)
         return
+    assert guard.write(sheet) == case.sheet, case      # the writer gives back what was read
+    yield WRITTEN
     if case.family == 'a shuffled P after its deadline' and result.taken == len(case.log) // 5 and result.answer == OPEN:
         yield 'shuffled P can grow'
     if case.family == 'a shuffled P after its deadline' and why > 1:
@@ -526,10 +531,12 @@ class Tally:
             yield 'refusal %d: ' % r + number(self.refusals[r])
         for c in (1, 2, 3):
             yield 'broken by ' + CAUSES[c] + ': ' + number(self.causes[c])
+        yield WRITTEN + ': ' + number(self.features[WRITTEN])
 
 
 def write(folder):
     words.hold()
+    writing.hold()
     body, shown, tally = [], [], Tally()
     for case in all_cases():
         result = guard.run(case.sheet, case.log, case.budget)

@@ -2,6 +2,7 @@
  *
  *     run SHEET LOG OUTPUT            guard_run with an output of that many bytes: what it returns, then all 16 bytes of the buffer, which was filled with A5
  *     live SHEET TAKEN NAME@TIME ..   a session that has taken so many before: for the opening and each observation ANSWER:REFUSAL:MASK:PLACE, then the taken count
+ *     write SHEET LENGTH              the sheet opened and its book written into a buffer of that many bytes: what guard_write returns, then the buffer and 4 bytes more, filled with A5
  *
  * Bytes are in hexadecimal, - for none; the name c is a reading of the clock. */
 #include "guard.h"
@@ -76,6 +77,22 @@ static void live(void)
     printf("%u\n", (unsigned)guard_taken(&monitor));
 }
 
+static void write_back(void)
+{
+    static guard_book book;
+    static guard_monitor monitor;
+    static uint8_t buffer[sizeof sheet];
+    size_t n = bytes_of(word(), sheet, sizeof sheet), length = (size_t)strtoul(word(), NULL, 10);
+    if (length > sizeof buffer - 4)
+        exit(2);
+    guard_open(&book, &monitor, sheet, n); /* of a refused sheet something else is written */
+    memset(buffer, 0xA5, sizeof buffer);
+    printf("%lld ", (long long)guard_write(&book, buffer, length));
+    for (size_t i = 0; i < length + 4; i++)
+        printf("%02X", buffer[i]);
+    printf("\n");
+}
+
 int main(void)
 {
     static char line[1 << 18];
@@ -85,6 +102,8 @@ int main(void)
             run();
         else if (what != NULL && strcmp(what, "live") == 0)
             live();
+        else if (what != NULL && strcmp(what, "write") == 0)
+            write_back();
         else
             return 2;
         fflush(stdout);

@@ -75,11 +75,19 @@ class Reference:
         out[:length] = short
         return returned, bytes(out)
 
-    def live(self, sheet, taken, observations):
+    def read(self, sheet):
         try:
-            judge = guard.Judge(guard.read_sheet(sheet).rules)
+            return guard.read_sheet(sheet)
         except guard.Refused as refused:
             raise Fault('the sheet is refused: %d at %d' % (refused.number, refused.place)) from None
+
+    def write(self, sheet, length):
+        buffer = bytearray(b'\xA5' * length)
+        returned = guard.write_into(self.read(sheet), buffer)
+        return returned, bytes(buffer) + b'\xA5' * 4
+
+    def live(self, sheet, taken, observations):
+        judge = guard.Judge(self.read(sheet).rules)
         if taken:
             judge.taken = Length(taken)
         for name, time in observations:
@@ -105,6 +113,10 @@ class Library:
     def call(self, sheet, log, length):
         returned, out = self.ask('run', sheet.hex() or '-', log.hex() or '-', str(length))
         return int(returned), bytes.fromhex(out)
+
+    def write(self, sheet, length):
+        returned, buffer = self.ask('write', sheet.hex(), str(length))
+        return int(returned), bytes.fromhex(buffer)
 
     def live(self, sheet, taken, observations):
         shown = ['%s@%d' % ('c' if name == CLOCK else name, time) for name, time in observations]
@@ -143,7 +155,8 @@ class Page:
             raise Fault('line %d: the block has no end' % block[0])
 
     KINDS = (('text', r'# (\w+\.txt)'), ('commands', r'\$ .*'), ('sheet', r'sheet (\w+)'), ('log', r'log (\w+) on (\w+)'), ('trace', r'trace ([\w/]+)(?:, (\d+) taken before)?'),
-             ('traces', r'traces (\w+)'), ('refused', r'refused (\d+) at (\d+)'), ('call', r'call (\w+) with an output of (\d+) bytes'))
+             ('traces', r'traces (\w+)'), ('refused', r'refused (\d+) at (\d+)'), ('call', r'call (\w+) with an output of (\d+) bytes'),
+             ('write', r'write (\w+) into a buffer of (\d+) bytes'))
 
     def kind_of(self, head):
         for kind, pattern in self.KINDS:
@@ -155,7 +168,7 @@ class Page:
     def faults(self):
         """The faults of all blocks; those that define sheets come first, since traces may stand above them."""
         found = []
-        for wanted in (('text',), ('sheet',), ('log', 'trace', 'traces', 'refused', 'call'), ('commands',)):
+        for wanted in (('text',), ('sheet',), ('log', 'trace', 'traces', 'refused', 'call', 'write'), ('commands',)):
             for line, lines in self.blocks:
                 try:
                     kind, words = self.kind_of(lines[0] if lines else '')
@@ -341,6 +354,18 @@ class Page:
             hold(who.name + ' leaves the output', (b'\xA5' * 16).hex(), out.hex())
         self.refused(int(found[1]))
 
+    def block_write(self, lines, name, length):
+        found = re.fullmatch(r'returns (-?\d+)', '\n'.join(lines[1:]))
+        if not found:
+            raise Fault('a write says what it returns, and nothing else')
+        sheet, _ = self.sheet(name)
+        returned, rest = int(found[1]), b'\xA5' * (int(length) + 4)
+        for who in self.judges:
+            said, buffer = who.write(sheet, int(length))
+            hold(who.name, returned, said)
+            hold(who.name + ' leaves the buffer', (rest if returned < 0 else sheet + rest[len(sheet):]).hex(), buffer.hex())
+        self.refused(-returned if returned < 0 else 0)
+
     # -- commands
 
     def block_commands(self, lines):
@@ -386,8 +411,8 @@ def page_faults(text, judges):
         found = page.faults()
     except Fault as fault:
         return [str(fault)], None
-    if page.refusals != set(range(1, 16)):
-        found.append('refusals without an example: %s' % sorted(set(range(1, 16)) - page.refusals))
+    if page.refusals != set(range(1, 17)):
+        found.append('refusals without an example: %s' % sorted(set(range(1, 17)) - page.refusals))
     heads = {int(n): words for n, words in re.findall(r'^### (\d+): (.*)$', text, re.M)}
     if heads != header_words():
         found.append('the headings of the refusals are not the words of include/guard.h')

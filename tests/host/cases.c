@@ -61,23 +61,29 @@ struct observation observation_of(const struct reference_case *c, size_t i)
     return o;
 }
 
-/* The file's bytes are kept, since the cases point into them. */
-void read_cases(const char *path)
+const uint8_t *file_bytes(const char *path, size_t *length)
 {
+    static uint8_t *kept[2];
+    static int count;
     FILE *file = fopen(path, "rb");
-    long length;
-    if (!file || fseek(file, 0, SEEK_END) != 0 || (length = ftell(file)) < 4 || fseek(file, 0, SEEK_SET) != 0) {
-        fprintf(stderr, "%s can't be read\n", path);
-        exit(2);
-    }
-    static uint8_t *bytes;
-    bytes = malloc((size_t)length);
-    if (!bytes || fread(bytes, 1, (size_t)length, file) != (size_t)length) {
+    long size = 0;
+    uint8_t *bytes = NULL;
+    if (file && fseek(file, 0, SEEK_END) == 0 && (size = ftell(file)) > 0 && fseek(file, 0, SEEK_SET) == 0)
+        bytes = malloc((size_t)size);
+    if (!bytes || count == sizeof kept / sizeof *kept || fread(bytes, 1, (size_t)size, file) != (size_t)size) {
         fprintf(stderr, "%s can't be read\n", path);
         exit(2);
     }
     fclose(file);
-    at = bytes, end = bytes + length;
+    *length = (size_t)size;
+    return kept[count++] = bytes;
+}
+
+/* The cases point into the file's bytes. */
+void read_cases(const char *path)
+{
+    size_t length;
+    at = file_bytes(path, &length), end = at + length;
     case_count = take_four();
     cases = calloc(case_count, sizeof *cases);
     for (size_t i = 0; i < case_count; i++)

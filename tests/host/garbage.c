@@ -1,12 +1,12 @@
 /* Books and monitors that the calls did not make. "For a table or monitor that these calls didn't make, or a monitor opened for another book, the verdict is free; the call
- * still returns and touches nothing but the monitor." The book can't be written meanwhile, and both end or start at a page's edge. */
+ * still returns and touches nothing but the monitor." The book can't be written meanwhile, and both end or start at a page's edge. Such books are written back too. */
 #include "host.h"
 
 #define ROUNDS 6000
 #define OBSERVATIONS 64
 
 /* how the bytes of a book or a monitor come about */
-enum source { REAL, OTHER, MUTATED, RANDOM, SMALL, EVERY_BIT, SOURCES };
+enum source { REAL, OTHER, MUTATED, ONE_BIT, ONE_WORD, RANDOM, SMALL, EVERY_BIT, SOURCES };
 
 static const struct reference_case *some_sheet(void)
 {
@@ -42,6 +42,10 @@ static void make(enum source source, uint8_t *bytes, size_t length, const void *
 {
     if (source == OTHER)
         memcpy(bytes, other, length);
+    else if (source == ONE_BIT)
+        bytes[below((uint32_t)length)] ^= (uint8_t)(1u << below(8));
+    else if (source == ONE_WORD)
+        scramble(bytes + sizeof(uint64_t) * below((uint32_t)(length / sizeof(uint64_t))), sizeof(uint64_t));
     else if (source == MUTATED)
         mutate(bytes, length);
     else if (source == RANDOM)
@@ -140,6 +144,45 @@ static void play(const struct desk *d, struct tally *n)
         n->wrong_touches += differs("garbage, a byte outside the monitor", n->observations);
 }
 
+/* ---- writing: "For a book that no sheet gives, the result of this and of later calls on it is free." The call returns, and it writes so many bytes of its buffer as it answers. */
+
+#define ROOM 12288
+#define MOST_BYTES 10894 /* no words say more: 14, and 16 rules of 8 bytes with 16 fragments of 2 with 8 ranges of 5 */
+
+static long wrong_write(const guard_book *book, struct pages buffers, const uint8_t *before, int at_end, size_t length, long *refused)
+{
+    uint8_t *all = buffers.start, *buffer = edge(buffers, at_end, length);
+    int64_t said = guard_write(book, buffer, length);
+    size_t from = (size_t)(buffer - all), after = from + (said < 0 ? 0 : (size_t)said);
+    long wrong = said != -16 && (said < 0 || said > MOST_BYTES || (size_t)said > length);
+    *refused += said == -16;
+    wrong = wrong || memcmp(all, before, from) != 0 || memcmp(all + after, before + after, ROOM - after) != 0;
+    memcpy(all, before, ROOM);
+    return wrong;
+}
+
+static void check_garbage_written(void)
+{
+    static uint8_t before[ROOM];
+    struct desk d = {pages_for(sizeof(guard_book)), pages_for(sizeof(guard_monitor)), NULL, NULL};
+    struct pages buffers = pages_for(ROOM);
+    long count = 0, refused = 0, wrong = 0;
+    scramble(before, ROOM);
+    memcpy(buffers.start, before, ROOM);
+    for (int round = 0; round < ROUNDS; round++) {
+        int at_end = round % 2;
+        const size_t lengths[] = {0, below(14), 14 + below(200), below(ROOM), GUARD_SHEET_BYTES, MOST_BYTES - 1, MOST_BYTES, ROOM};
+        d.book = (void *)edge(d.books, at_end, sizeof *d.book);
+        d.monitor = (void *)edge(d.monitors, at_end, sizeof *d.monitor);
+        prepare(&d, (enum source)(round / 2 % SOURCES), REAL);
+        for (size_t i = 0; i < sizeof lengths / sizeof *lengths; i++, count++)
+            if (wrong_write(d.book, buffers, before, at_end, lengths[i], &refused))
+                wrong += differs("garbage written", round);
+    }
+    tell("garbage books written, inside the buffer and within the number answered", count, wrong);
+    tell("garbage books, kinds of answers to a write, each a thousand times", (refused >= 1000) + (count - refused >= 1000), (refused < 1000) + (count - refused < 1000));
+}
+
 void check_garbage(void)
 {
     struct tally n;
@@ -159,4 +202,5 @@ void check_garbage(void)
     for (int a = 0; a < 4; a++)
         kinds += n.answers[a] >= 1000;
     tell("kinds of answers to garbage, each a thousand times", kinds, 4 - kinds);
+    check_garbage_written();
 }

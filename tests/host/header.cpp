@@ -1,4 +1,4 @@
-// include/guard.h from C++: its sizes, its calls, a session of rule R, document 01's printed case, and one of a range without an upper end.
+// include/guard.h from C++: its sizes, its calls, a session of rule R, document 01's printed case, its book written back, and a session of a range without an upper end.
 #include "../../include/guard.h"
 
 #include <cstdio>
@@ -23,14 +23,17 @@ int main()
     wrong += guard_taken(&monitor) != 0;
     uint8_t out[GUARD_OUTPUT_BYTES];
     wrong += guard_run(sheet, sizeof sheet, nullptr, 0, 1, out, sizeof out) != 0 || out[0] != GUARD_WHOLE;
-    wrong += std::strstr(guard_refusal_text(GUARD_MARK), "mark") == nullptr || std::strcmp(guard_refusal_text(16), "unknown refusal") != 0;
+    wrong += std::strstr(guard_refusal_text(GUARD_MARK), "mark") == nullptr || std::strcmp(guard_refusal_text(17), "unknown refusal") != 0;
     wrong += guard_library_version() != GUARD_LIBRARY_VERSION || guard_sheet_version() != GUARD_SHEET_VERSION;
+    uint8_t stored[sizeof sheet];
+    wrong += guard_write(&book, stored, sizeof stored - 1) != -GUARD_BUFFER;
+    wrong += guard_write(&book, stored, sizeof stored) != 34 || std::memcmp(stored, sheet, sizeof sheet) != 0;
     // kind 1, 0[3,0] before 2, in version 2: 65,537 and the trigger
     const uint8_t endless[29] = {0x4C, 0x4F, 0x42, 2, 0, 0, 0, 0, 0, 0, 0, 0, 0, 1, 1, 1, 0, 2, 0, 0, 0, 0, 0, 1, 0, 3, 0, 0, 0};
     wrong += guard_open(&book, &monitor, endless, sizeof endless).answer != GUARD_WHOLE;
     for (int i = 0; i < 65537; i++)
         wrong += guard_event(&book, &monitor, 0, 0).answer != GUARD_OPEN;
     wrong += guard_event(&book, &monitor, 2, 0).answer != GUARD_WHOLE;
-    std::printf("guard.h from C++: %s\n", wrong ? "NOT AS DUE" : "15 as due");
+    std::printf("guard.h from C++: %s\n", wrong ? "NOT AS DUE" : "17 as due");
     return wrong != 0;
 }

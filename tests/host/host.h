@@ -46,6 +46,11 @@ uint32_t four_bytes(const uint8_t *bytes);
 extern const uint8_t sheet_t[T_BYTES], sheet_r[R_BYTES], sheet_n[N_BYTES], sheet_s[S_BYTES], sheet_a[A_BYTES], sheet_o[O_BYTES], sheet_w[W_BYTES];
 extern const uint8_t sheet_e[E_BYTES], sheet_f[F_BYTES], sheet_g[G_BYTES], sheet_h[H_BYTES];
 
+/* ---- files that a script has written */
+
+/* A file's bytes, which are kept; what can't be read ends the program. */
+const uint8_t *file_bytes(const char *path, size_t *length);
+
 /* ---- the cases that cases.py writes */
 
 struct observation {
@@ -106,6 +111,7 @@ void check_cases(void);
 void check_long(const char *path);
 void check_sessions(void);
 void check_pages(void);
+void check_writing(const char *path);
 void check_garbage(void);
 
 #endif

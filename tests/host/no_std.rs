@@ -57,6 +57,8 @@ fn wrong() -> Result<i32, Refusal> {
     }
     let refused: &dyn core::error::Error = &Book::open(b"LOL").unwrap_err();
     wrong += i32::from(!refused.is::<Refusal>());
+    let mut sheet = [0; 34];
+    wrong += i32::from(book.write(&mut sheet)? != 34 || sheet != R);
     Ok(wrong + i32::from(run(&R, &[], 1).answer != Ok(Verdict::Whole)))
 }
 

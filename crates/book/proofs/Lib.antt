@@ -3,6 +3,5 @@ pub mod Turns
 pub mod TableLaws
 pub mod SetLaws
 pub mod Lookups
-pub mod Injective
 pub mod Places
 pub mod Translated

@@ -3,7 +3,7 @@ ghost use mathlib.Core.Path.{_≡_};
 ghost use mathlib.Core.Bool.{cond};
 ghost use Prim.Native.Nat.{ℕ, _<_, _≤_};
 ghost use Rattle.names.specs.Names.{member, insert};
-ghost use Rattle.tables.specs.Words.{cap, roundIn};
+ghost use Rattle.tables.specs.Words.{roundIn};
 ghost use Rattle.book.specs.Tables.{stored, inTurn, fragmentSet, nameTable, ruleSet, ruleTable, maskOf, putCell, putFragment, putRule, tableOf};
 ghost use Rattle.book.specs.Books.{Translates, bookFrom};
 use tables::Table;
@@ -66,16 +66,6 @@ fn rule_table<'a>(heads: &'a [u64; 16], names: &'a [u64; 256]) -> [u64; 16]
         r = r + 1;
     }
     sets
-}
-
-// At most 16 rules.
-fn few(count: u8) -> usize
-    ensures { λ n. ⌜ n ≡ cap 16 count ⌝ }
-{
-    if 16 < count {
-        return 16;
-    }
-    count as usize
 }
 
 // The mask, with rule r if its set has name m.
@@ -206,7 +196,7 @@ fn table_of<'a>(
 ) -> Table
     ensures { λ x. ⌜ x ≡ tableOf (now (heads .entry)) (now (fragments .entry)) (now (ranges .entry)) count version outputs ⌝ }
 {
-    let n = few(count);
+    let n = tables::few(count as usize);
     let names = name_table(fragments, ranges);
     let sets = rule_table(heads, &names);
     let mut table = [0u64; tables::LENGTH];

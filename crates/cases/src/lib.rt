@@ -1,5 +1,5 @@
-// The cases of cases.bin for the program `vectors`: their bytes read from the file, the answer due held to the one given, and how many agree counted and printed: of all, by answer, by refusal
-// and by what a break came by. reference/make.py says the file's format.
+// The cases of cases.bin for the program `vectors`: their bytes read from the file, the answer due held to the one given, and how many agree counted and printed: of all, by answer, by refusal,
+// by what a break came by, and of the books written back. reference/make.py says the file's format.
 pub mod number;
 pub mod tally;
 
@@ -99,6 +99,29 @@ pub fn compare(
     }
 }
 
+// The case's sheet is accepted: what is due for it is no refusal of a sheet.
+fn accepted(end: &[u8; END]) -> bool {
+    if end[4] == 3 {
+        return end[5] > 10;
+    }
+    true
+}
+
+// Counts the book of an accepted sheet as one to be written back and, where it was, as met.
+pub fn count_written(
+    written: bool,
+    end: &[u8; END],
+    dues: &mut [u32; SLOTS],
+    mets: &mut [u32; SLOTS],
+) {
+    if accepted(end) {
+        tally::bump(dues, tally::WRITTEN);
+        if written {
+            tally::bump(mets, tally::WRITTEN);
+        }
+    }
+}
+
 // One line of the tally: how many of the cases due in a slot agree.
 fn print_slot(name: &[u8], slot: usize, dues: &[u32; SLOTS], mets: &[u32; SLOTS]) {
     if slot < SLOTS {
@@ -140,4 +163,5 @@ pub fn print_tally(dues: &[u32; SLOTS], mets: &[u32; SLOTS]) {
     print_slot(b"broken by an own event", tally::CAUSES + 1, dues, mets);
     print_slot(b"broken by a foreign event", tally::CAUSES + 2, dues, mets);
     print_slot(b"broken by the clock", tally::CAUSES + 3, dues, mets);
+    print_slot(b"books written back", tally::WRITTEN, dues, mets);
 }

@@ -1,5 +1,5 @@
-// Counts of cases in slots: all of them, the answers 0 to 3, the refusals 0 to 15, and what a break
-// came by, 0 to 3.
+// Counts of cases in slots: all of them, the answers 0 to 3, the refusals 0 to 15, what a break came
+// by, 0 to 3, and the books written back.
 
 pub const ALL: usize = 0;
 
@@ -9,14 +9,16 @@ pub const REFUSALS: usize = 5;
 
 pub const CAUSES: usize = 21;
 
-pub const SLOTS: usize = 25;
+pub const WRITTEN: usize = 25;
+
+pub const SLOTS: usize = 26;
 
 fn wide(b: u8) -> usize {
     b as usize
 }
 
 // One more in a slot; nothing where there is no such slot, or where it is full.
-fn bump(table: &mut [u32; SLOTS], slot: usize) {
+pub fn bump(table: &mut [u32; SLOTS], slot: usize) {
     if slot < SLOTS {
         let n = table[slot];
         if n < u32::MAX {

@@ -7,9 +7,10 @@ use native.Mathlib.Omega.{arith}
 use denote.Enum.Declared.{tagOf}
 use Rattle.pattern.specs.Judge.{nothing, judgeAnswers}
 use Rattle.pattern.specs.Values.{refusedValues, answerValues}
+use Rattle.layout.specs.Terms.{today}
 use Rattle.layout.specs.Layout.{Sheet, WellFormedSheet, Bytes}
 use Rattle.layout.specs.Reading.{Outcome, accepted, refused, readSheet}
-use Rattle.layout.proofs.Acceptance.{accepted-is-encoded}
+use Rattle.layout.proofs.Acceptance.{Accepts, accepted-is-encoded}
 use Rattle.sheet.specs.declared.Answer.the-variants.{Refused}
 use Rattle.sheet.proofs.Answer.{the-type}
 use Rattle.sheet.proofs.Cases.{answerOf}
@@ -25,7 +26,8 @@ use Rattle.answers.specs.declared.Answer.the-variants.{Whole, Open, Broken}
 use Rattle.answers.specs.declared.Answer.the-variants as N
 use Rattle.answers.specs.declared.Observation.{Observation}
 use Rattle.replies.specs.Replies.{wordOf}
-use Rattle.live.specs.Live.{Arrays, OpensBy, Opens, Notes, Live, none, call, LiveAgreement}
+use Rattle.sheet_writer.proofs.Writing.{short, long, same-bytes}
+use Rattle.live.specs.Live.{Arrays, OpensBy, Opens, Notes, Live, none, call, LiveAgreement, numberOf, Stores, StoredBack}
 
 -- ---- opening
 
@@ -101,3 +103,22 @@ live-agreement sheet bytes before after r opens S is os rs last live =
 pub started-agreement : (m : List ℕ) → Freshes inMemory m → (sheet : List ℕ) → Bytes sheet → (S : Sheet) → readSheet sheet ≡ accepted S
     → (os : List Observation) (rs last : List ℕ) → Live (bookOf S .table) m os rs last → LiveAgreement S os rs last
 started-agreement m fresh sheet bytes S is os rs last = agrees S (accepted-is-encoded sheet bytes is .formed) fresh
+
+-- ---- writing
+
+-- for every accepted sheet, the arrays that opening left and whatever buffer: writing the book gives the sheet's own bytes, and opening these gives the same table
+pub opened-writes-back : (sheet : List ℕ) → Bytes sheet → (lent opened : Arrays) (r : ℕ) → Opens sheet lent r opened → (S : Sheet) → readSheet sheet ≡ accepted S
+    → (before after : List ℕ) (n : ℕ) → Stores (opened .table) before n after → StoredBack sheet opened before n after
+opened-writes-back sheet bytes lent opened r opens S is before after n stores =
+    let accepts : Accepts today sheet S = accepted-is-encoded sheet bytes is in
+    let o : OpensBy (accepted S) lent opened = subst (λ (x : Outcome). OpensBy x lent opened) is (opens .opens) in
+    let l = looks S (accepts .formed) in
+    let w = stores .writes in
+    record {
+      own = λ h. let (a, e) = long w sheet S (bookOf S) accepts l (sym (o .0)) h in (stores .number ∙ ap numberOf a, e);
+      short = λ h. let (a, e) = short w sheet S (bookOf S) accepts l (sym (o .0)) h in (stores .number ∙ ap numberOf a, e);
+      again = λ h before′ after′ answer v.
+          let v : Opens sheet before′ answer after′ = subst (λ (x : List ℕ). Opens x before′ answer after′) (same-bytes w sheet S (bookOf S) accepts l (sym (o .0)) h) v in
+          let a : OpensBy (accepted S) before′ after′ = subst (λ (x : Outcome). OpensBy x before′ after′) is (v .opens) in
+          (v .answers ∙ rw is refl, a .0 ∙ sym (o .0));
+    }

@@ -2,9 +2,9 @@
 -- An answer is one number (`replies/specs/Replies`).
 -- Assumes nothing.
 use mathlib.Core.Path.{_≡_}
-use mathlib.Core.List.{List, [], _∷_, map}
-use Prim.Native.Nat.{ℕ}
-use lib.ListN.{length}
+use mathlib.Core.List.{List, [], _∷_, _++_, map}
+use Prim.Native.Nat.{ℕ, _-_, _^_, _≤_, _<_}
+use lib.ListN.{length, take, drop}
 use Rattle.pattern.specs.Judge.{Oracle, Right, nothing, judgeAnswers, judgeKeeps}
 use Rattle.pattern.specs.Judge as J
 use Rattle.pattern.specs.Values.{verdictValues, answerValues}
@@ -16,11 +16,14 @@ use Rattle.words.specs.Words.{heldBy}
 use Rattle.answers.specs.declared.Observation.{Observation}
 use Rattle.answers.specs.declared.Answer.{Answer}
 use Rattle.replies.specs.Replies.{wordOf}
+use Rattle.sheet_writer.specs.declared.Written.{Written}
+use Rattle.sheet_writer.specs.Writing.{written, answerOf, Writes}
+use Rattle.sheet_writer.specs.Writing as W
 use Rattle.monitor.specs.Promise.{seen, valuesOf, verdictIn, inMemory, Observes, Freshes}
 
 -- it rises with each call that is added or changed, as opening is by the sheets that it reads, and with the memory that a host lends
 abbrev pub libraryVersion : ℕ
-libraryVersion = 5
+libraryVersion = 6
 
 -- ---- opening: the two arrays that a host lends
 
@@ -64,3 +67,22 @@ pub record LiveAgreement (S : Sheet) (os : List Observation) (rs last : List ℕ
   -- a judge exists, and with every one of them the session agrees
   pub judged : (oracle : Oracle) × Right (S .rules) oracle
   pub agrees : (oracle : Oracle) → Right (S .rules) oracle → LiveAgrees os rs last oracle
+
+-- ---- writing: the number of bytes, or a refusal as its number below 0, in 64 bits
+
+abbrev pub numberOf : W.Answer → ℕ
+numberOf (written n) = n
+numberOf (W.refused number) = 2 ^ 64 - number
+
+-- the number of an answer such as the writer promises
+pub record Stores (table before : List ℕ) (r : ℕ) (after : List ℕ) : Type 0 where
+  pub answer : Written
+  pub number : r ≡ numberOf (answerOf answer)
+  pub writes : Writes table before answer after
+
+-- a sheet that was opened into these arrays, and its book written into a buffer
+pub record StoredBack (sheet : List ℕ) (opened : Arrays) (before : List ℕ) (r : ℕ) (after : List ℕ) : Type 0 where
+  pub own : length sheet ≤ length before → (r ≡ length sheet) × (after ≡ sheet ++ drop (length sheet) before)
+  pub short : length before < length sheet → (r ≡ 2 ^ 64 - 16) × (after ≡ before)
+  -- the bytes are opened into the same table, whatever arrays are lent
+  pub again : length sheet ≤ length before → (lent now : Arrays) (answer : ℕ) → Opens (take (length sheet) after) lent answer now → (answer ≡ 0) × (now .table ≡ opened .table)

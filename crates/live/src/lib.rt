@@ -6,7 +6,9 @@ ghost use Rattle.layout.specs.Terms.{today};
 ghost use Rattle.words.specs.Words.{heldBy};
 ghost use Rattle.answers.specs.declared.Observation.the-variants.{Event, Clock};
 ghost use Rattle.monitor.specs.Promise.{inMemory, Freshes};
-ghost use Rattle.live.specs.Live.{libraryVersion, Opens, Notes, verdictIs};
+ghost use Rattle.sheet_writer.specs.Writing.{answerOf};
+ghost use Rattle.live.specs.Live.{libraryVersion, Opens, Notes, verdictIs, numberOf, Stores};
+use sheet_writer::Written;
 use tables::Table;
 use words::Memory;
 
@@ -76,9 +78,30 @@ pub extern "C" fn guard4_taken(monitor: &Memory) -> u32
     monitor::count(monitor)
 }
 
+// ---- writing
+
+// The answer of the writer as one number.
+fn written_word(w: Written) -> u64
+    ensures { λ r. ⌜ r ≡ numberOf (answerOf w) ⌝ }
+{
+    match w {
+        Written::Bytes(n) => n as u64,
+        Written::TooShort => 0xFFFF_FFFF_FFFF_FFF0,
+    }
+}
+
+// Writes the sheet of a book into the buffer: the number of bytes, or minus 16 in 64 bits and nothing is written.
+#[no_mangle]
+pub extern "C" fn guard4_write(book: &Table, buffer: &mut [u8]) -> u64
+    ensures { λ r. ⌜ Stores (now (book .entry)) (now (buffer .entry)) r (now (buffer .exit)) ⌝ }
+{
+    let w = sheet_writer::write(book, buffer);
+    written_word(w)
+}
+
 // ---- versions
 
-const LIBRARY: u32 = 5;
+const LIBRARY: u32 = 6;
 
 const NEWEST_SHEET: u32 = 2;
 

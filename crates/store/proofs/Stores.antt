@@ -1,6 +1,6 @@
--- A number's bytes, stored one after the other: what is left to store after some of them. Assumes nothing.
+-- Bytes, stored one after the other: what is left to store of a number after some of its bytes, and two runs in a row. Assumes nothing.
 use mathlib.Core.Path.{_≡_, refl, sym, _∙_, ap, ap₂}
-use mathlib.Core.List.{List}
+use mathlib.Core.List.{List, [], _∷_, _++_}
 use Prim.Native.Nat.{ℕ, suc, _+_, _-_, _%_, _/_, _≤_, _<_}
 use native.Mathlib.Omega.{arith}
 use lib.ListN.{length, set, length-set}
@@ -28,3 +28,10 @@ module _ (l : List ℕ) (at n x : ℕ) where
 
   pub storing-end : (out : List ℕ) (rest i : ℕ) → Storing out rest i → n ≤ i → out ≡ sets l at (le n x)
   storing-end out rest i (a, e, p) h = let z : n - i ≡ 0 = omega arith in sym (p ∙ ap (λ (k : ℕ). sets out (at + i) (le k rest)) z)
+
+-- a second run of bytes where the first one ends: one run of both
+pub sets-append : (l a b : List ℕ) (at : ℕ) → sets (sets l at a) (at + length a) b ≡ sets l at (a ++ b)
+sets-append l [] b at = let e : at + 0 ≡ at = omega arith in ap (λ (k : ℕ). sets l k b) e
+sets-append l (x ∷ a) b at =
+    let e : at + suc (length a) ≡ suc at + length a = omega arith in
+    ap (λ (k : ℕ). sets (sets l at (x ∷ a)) k b) e ∙ sets-append (set l at x) a b (suc at)

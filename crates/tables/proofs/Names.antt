@@ -1,6 +1,7 @@
 -- From a place to its name: in a table that holds a well-formed rule, the first name that stands at range i of fragment f is that range's, since no other one does.
 -- Assumes nothing.
 use mathlib.Core.Path.{_≡_, refl, ap, sym, subst, _∙_}
+use mathlib.Core.Logic.{_≢_, _⊎_, inl, inr}
 use mathlib.Core.Bool.{Bool, true, false, cond}
 use mathlib.Core.List.{List}
 use Prim.Native.Nat.{ℕ, zero, suc, _+_, _<_, _≤_}
@@ -12,21 +13,21 @@ use Rattle.names.specs.Names.{member}
 use Rattle.pattern.specs.Lists.{isIn}
 use Rattle.pattern.specs.Meaning.{Rule, orderingNames, WellFormedRange, WellFormedFragment, WellFormed}
 use Rattle.pattern.specs.Model.{roundOf, noFragment, fragmentAt}
-use Rattle.pattern.proofs.Basics.{is-true, both-l, both-r, isIn→, isIn←}
+use Rattle.pattern.proofs.Basics.{is-true, both-l, both-r, true-or-false, same?, isIn→, isIn←}
 use Rattle.layout.specs.Pages.{noRange, ruleAt, rangeAt}
 use Rattle.layout.proofs.PageLaws.{round-formed, each-at}
 use Rattle.pattern.proofs.Numbering.{round-names}
 use Rattle.layout.proofs.Once.{in-ordering, ordering-place}
 use Rattle.tables.specs.Cells.{fragmentIn, cellAt, maskIn, Cell, HoldsRules, firstFrom, standsAt, nameAt}
 
--- the first number of which p is so, where it is so of m alone
-first-is : (p : ℕ → Bool) (m end : ℕ) → T (p m) → ((j : ℕ) → j < end → T (p j) → j ≡ m) → (n at : ℕ) → at + n ≡ end → at ≤ m → m < end → firstFrom p at n ≡ m
-first-is p m end here alone zero at e l h = absurd (omega (arith, e, l, h))
-first-is p m end here alone (suc n) at e l h = go (p at) refl (first-is p m end here alone n (suc at) (omega (arith, e)))
+-- the first number of which p is so; past the last that is tried, where it is so of none
+pub first-at : (p : ℕ → Bool) (m n at : ℕ) → at ≤ m → m ≤ at + n → ((j : ℕ) → j < m → p j ≡ false) → (m < at + n → p m ≡ true) → firstFrom p at n ≡ m
+first-at p m zero at l h none here = omega (arith, l, h)
+first-at p m (suc n) at l h none here = go (same? at m) (λ k. first-at p m n (suc at) k (omega (arith, h)) none (λ i. here (omega (arith, i))))
   where
-    go : (b : Bool) → p at ≡ b → (suc at ≤ m → m < end → firstFrom p (suc at) n ≡ m) → cond b at (firstFrom p (suc at) n) ≡ m
-    go true q next = alone at (omega (arith, l, h)) (subst T (sym q) tt)
-    go false q next = let other : at ≡ m → ⊥ = λ z. subst T (ap p (sym z) ∙ q) here in next (omega (arith, l, other)) h
+    go : (at ≡ m) ⊎ (at ≢ m) → (suc at ≤ m → firstFrom p (suc at) n ≡ m) → cond (p at) at (firstFrom p (suc at) n) ≡ m
+    go (inl e) later = rw (ap p e ∙ here (omega (arith, e))) e
+    go (inr ne) later = rw (none at (omega (arith, l, ne))) (later (omega (arith, l, ne)))
 
 module _ {table : List ℕ} {rules : List Rule} (holds : HoldsRules table rules) (r : ℕ) (here : r < length rules) (formed : WellFormed (ruleAt rules r)) where
   abbrev rule : Rule
@@ -44,10 +45,10 @@ module _ {table : List ℕ} {rules : List Rule} (holds : HoldsRules table rules)
         let a : WellFormedFragment (fragmentAt rule f) = each-at WellFormedFragment noFragment (roundOf rule) f (round-formed rule formed) inside in
         omega (arith, each-at WellFormedRange noRange (fragmentAt rule f .ranges) i (a .ranges) within .named)
 
-    stands : T (standsAt table r f i name)
+    stands : standsAt table r f i name ≡ true
     stands =
         let c = holds .rule r here .cell f i inside within in
-        rw (held-is name small ∙ is-true _ (isIn← name (orderingNames (roundOf rule)) (in-ordering (roundOf rule) f i inside within)), eq-eqb _ f (c .fragment), eq-eqb _ i (c .index)) tt
+        rw (held-is name small ∙ is-true _ (isIn← name (orderingNames (roundOf rule)) (in-ordering (roundOf rule) f i inside within)), eq-eqb _ f (c .fragment), eq-eqb _ i (c .index)) refl
 
     alone : (n : ℕ) → n < 64 → T (standsAt table r f i n) → n ≡ name
     alone n l e =
@@ -58,4 +59,11 @@ module _ {table : List ℕ} {rules : List Rule} (holds : HoldsRules table rules)
 
     pub name-at : nameAt table r f i ≡ rangeAt rule f i .name
     unfolding nameAt
-    name-at = first-is (standsAt table r f i) name 64 stands alone 64 0 (omega arith) (omega arith) small
+    name-at = first-at (standsAt table r f i) name 64 0 (omega arith) (omega (arith, small)) other (λ h. stands)
+      where
+        other : (n : ℕ) → n < name → standsAt table r f i n ≡ false
+        other n l = go (true-or-false (standsAt table r f i n))
+          where
+            go : (standsAt table r f i n ≡ true) ⊎ (standsAt table r f i n ≡ false) → standsAt table r f i n ≡ false
+            go (inl e) = let z : n ≡ name = alone n (omega (arith, l, small)) (subst T (sym e) tt) in absurd (omega (arith, z, l))
+            go (inr e) = e

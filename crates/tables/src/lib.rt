@@ -5,7 +5,7 @@ ghost use mathlib.Core.Bool.{cond};
 ghost use lib.Dec.{eqb};
 ghost use Prim.Native.Nat.{_<_};
 ghost use Rattle.tables.specs.Cells.{fragmentIn, beforeIn, lastIn, freesIn, indexIn, lessIn, joinOfCell, shuffledIn, leastIn, mostIn, inPIn, inQIn, endsPIn, maskIn};
-ghost use Rattle.tables.specs.Words.{kindIn, countPIn, countQIn, triggerIn, timeIn, roundIn, joinIn, countIn, bitIn, lowIn, highIn};
+ghost use Rattle.tables.specs.Words.{cap, kindIn, countPIn, countQIn, triggerIn, timeIn, roundIn, joinIn, countIn, bitIn, lowIn, highIn};
 
 // ---- a rule's head
 
@@ -37,6 +37,16 @@ pub fn time(head: u64) -> u32
     ensures { λ r. ⌜ r ≡ timeIn head ⌝ }
 {
     (head / 4294967296 % 4294967296) as u32
+}
+
+// At most 16: a sheet has no more rules, and a rule no more fragments.
+pub fn few(n: usize) -> usize
+    ensures { λ m. ⌜ m ≡ cap 16 n ⌝ }
+{
+    if 16 < n {
+        return 16;
+    }
+    n
 }
 
 // Fragments in the round.

@@ -1,11 +1,14 @@
 // Runs the cases of cases.bin through the host's call and holds the twelve bytes to those due. It
 // prints the five numbers of each case to be shown, a line for each case that differs, and then how
-// many cases agree: of all, by answer, by refusal and by what a break came by.
+// many cases agree: of all, by answer, by refusal and by what a break came by. The book of each
+// accepted sheet is written back too.
 //
 // reference/make.py makes the file, says its format, and makes what must be printed.
 use cases::END;
 use cases::number::four;
 use cases::tally::SLOTS;
+use sheet_writer::Written;
+use tables::Table;
 
 // Room for the largest sheet, and for a log of two hundred records.
 const SHEET_ROOM: usize = 8192;
@@ -22,6 +25,59 @@ fn call(sheet: &[u8], n: usize, log: &[u8], m: usize, budget: u32, out: &mut [u8
         return;
     }
     host::guard4_run(&sheet[..n], &log[..m], budget, out);
+}
+
+// The book is written as these bytes, which fill the buffer.
+fn fills(table: &Table, bytes: &[u8], buffer: &mut [u8]) -> bool {
+    let w = sheet_writer::write(table, buffer);
+    match w {
+        Written::Bytes(n) => {
+            if n != bytes.len() {
+                return false;
+            }
+            check::same(bytes, buffer)
+        }
+        Written::TooShort => false,
+    }
+}
+
+// The book is written as these bytes, into a buffer of just their length.
+fn writes(table: &Table, bytes: &[u8]) -> bool {
+    let mut buffer = [0u8; SHEET_ROOM];
+    let n = bytes.len();
+    if n > SHEET_ROOM {
+        return false;
+    }
+    fills(table, bytes, &mut buffer[..n])
+}
+
+// The book is refused a buffer of so many bytes, one fewer than it takes.
+fn too_short(table: &Table, n: usize) -> bool {
+    let mut buffer = [0u8; SHEET_ROOM];
+    if n > SHEET_ROOM {
+        return false;
+    }
+    let w = sheet_writer::write(table, &mut buffer[..n]);
+    match w {
+        Written::Bytes(_) => false,
+        Written::TooShort => true,
+    }
+}
+
+// The book of the first n bytes of sheet is written back.
+fn written_back(sheet: &[u8], n: usize) -> bool {
+    if n > sheet.len() {
+        return false;
+    }
+    if n < 1 {
+        return false;
+    }
+    let t = book::translate(&sheet[..n]);
+    let b = t.book;
+    if too_short(&b.table, n - 1) {
+        return writes(&b.table, &sheet[..n]);
+    }
+    false
 }
 
 // Reads the next case and runs it, and answers whether it was there.
@@ -53,6 +109,7 @@ fn run_case(
         cases::print(b"\n");
     }
     cases::compare(number, &out, &end, dues, mets);
+    cases::count_written(written_back(&sheet, n), &end, dues, mets);
     true
 }
 

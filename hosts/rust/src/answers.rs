@@ -65,7 +65,7 @@ impl fmt::Display for Verdict {
     }
 }
 
-/// Why a sheet, an observation or a log was refused. Nothing has changed then.
+/// Why a sheet, an observation, a log or a buffer was refused. Nothing has changed then.
 ///
 /// A sheet's `place` is the offset of the first faulty field. An observation's is the refused record's offset in its log, and `None` in a live session.
 ///
@@ -112,6 +112,8 @@ pub enum Refusal {
     LogLength,
     /// 15: the output has under 12 bytes. [`run`](crate::run) has an output of its own, so that this never comes from here.
     OutputShort,
+    /// 16: the buffer is shorter than the sheet. Only [`Book::write`](crate::Book::write) can meet it.
+    BufferShort,
     /// An answer or a refusal's number that this package doesn't know, as the library gave them: the library is of another version. What has changed isn't known. Take it as a
     /// reason to stop the plugin.
     Unknown { answer: u8, number: u8, place: Option<u32> },
@@ -137,11 +139,21 @@ impl Refusal {
             13 => Refusal::CountFull,
             14 => Refusal::LogLength,
             15 => Refusal::OutputShort,
+            16 => Refusal::BufferShort,
             _ => Refusal::Unknown {
                 answer: REFUSED,
                 number,
                 place,
             },
+        }
+    }
+
+    /// A refusal that is none of its call's.
+    pub(crate) fn unknown(number: u8) -> Refusal {
+        Refusal::Unknown {
+            answer: REFUSED,
+            number,
+            place: None,
         }
     }
 
@@ -180,11 +192,12 @@ impl Refusal {
             CountFull => (13, None, "4,294,967,295 observations are already taken"),
             LogLength => (14, None, "the log's length is no multiple of 5, or above 4,294,967,295"),
             OutputShort => (15, None, "the output has under 12 bytes"),
+            BufferShort => (16, None, "the buffer is shorter than the sheet"),
             Unknown { number, place, .. } => (number, place, "the library's answer is not known to this package"),
         }
     }
 
-    /// Document 01's number, 1 to 15; for one that isn't known, the library's.
+    /// The number of documents 01 and 02, 1 to 16; for one that isn't known, the library's.
     pub fn number(self) -> u8 {
         self.parts().0
     }
@@ -239,10 +252,10 @@ mod tests {
 
     #[test]
     fn each_number_has_its_refusal_back() {
-        for number in 1..=15 {
+        for number in 1..=16 {
             let refusal = Refusal::of(number, Some(9));
             assert_eq!(refusal.number(), number);
-            let placed = !(13..=15).contains(&number);
+            let placed = !(13..=16).contains(&number);
             assert_eq!(refusal.place(), placed.then_some(9), "{refusal:?}");
             assert!(!refusal.explanation().contains('\n'));
         }
@@ -251,13 +264,13 @@ mod tests {
 
     #[test]
     fn an_unknown_number_is_an_error_that_has_it() {
-        for number in (0..=255).filter(|n| !(1..=15).contains(n)) {
+        for number in (0..=255).filter(|n| !(1..=16).contains(n)) {
             let refusal = Refusal::of(number, Some(9));
             assert_eq!((refusal.answer(), refusal.number(), refusal.place()), (3, number, Some(9)));
             assert_eq!(answer_of(3, number, 1, 9, Some(9)), Err(refusal));
         }
-        let words = "answer 3, refusal 16: the library's answer is not known to this package";
-        assert_eq!(Refusal::of(16, None).to_string(), words);
+        let words = "answer 3, refusal 17: the library's answer is not known to this package";
+        assert_eq!(Refusal::of(17, None).to_string(), words);
     }
 
     #[test]
@@ -277,7 +290,7 @@ mod tests {
             .lines()
             .filter_map(|line| line.strip_prefix("        \"")?.strip_suffix("\","))
             .collect();
-        let ours: Vec<_> = (1..=15)
+        let ours: Vec<_> = (1..=16)
             .map(|number| Refusal::of(number, None).explanation().replace('"', "\\\""))
             .collect();
         assert_eq!(texts, ours);

@@ -10,6 +10,9 @@ pub type MonitorBytes = [u8; MONITOR_BYTES];
 /// How many words a book has: `GUARD_BOOK_WORDS` there.
 pub(crate) const BOOK_WORDS: usize = 1106;
 
+/// No accepted sheet is longer: `GUARD_SHEET_BYTES` there. A buffer of this length is enough for [`Book::write`](crate::Book::write).
+pub const SHEET_BYTES: usize = 5774;
+
 /// A book's words, as `guard_book` in `include/guard.h` has them.
 pub(crate) type Tables = [u64; BOOK_WORDS];
 
@@ -23,6 +26,7 @@ extern "C" {
     fn guard4_clock(book: *const u64, monitor: *mut u8, time: u32) -> u64;
     fn guard4_verdict(monitor: *const u8) -> u64;
     fn guard4_taken(monitor: *const u8) -> u32;
+    fn guard4_write(book: *const u64, buffer: *mut u8, length: usize) -> u64;
 }
 
 /// The version of the library that is linked. This package is of [`LIBRARY_VERSION`](crate::LIBRARY_VERSION).
@@ -79,6 +83,12 @@ pub(crate) fn taken(monitor: &MonitorBytes) -> u32 {
     unsafe { guard4_taken(monitor.as_ptr()) }
 }
 
+/// Writes the sheet of a book: the number of bytes, or minus 16 in 64 bits and `buffer` as it was.
+pub(crate) fn write(tables: &Tables, buffer: &mut [u8]) -> u64 {
+    // SAFETY: the book has the length that the call wants, by its type, and is only read; the buffer's pointer comes with its length, and it is apart, being borrowed mutably.
+    unsafe { guard4_write(tables.as_ptr(), buffer.as_mut_ptr(), buffer.len()) }
+}
+
 #[cfg(test)]
 mod tests {
     use super::*;
@@ -87,13 +97,17 @@ mod tests {
     /// A number that `include/guard.h` defines.
     fn defined(name: &str) -> Option<usize> {
         let mut lines = include_str!("../../../include/guard.h").lines();
-        lines.find_map(|line| line.strip_prefix("#define ")?.strip_prefix(name)?.trim().parse().ok())
+        lines.find_map(|line| {
+            let value = line.strip_prefix("#define ")?.strip_prefix(name)?;
+            value.split_whitespace().next()?.parse().ok()
+        })
     }
 
     #[test]
     fn the_lengths_of_the_header() {
         assert_eq!(defined("GUARD_BOOK_WORDS"), Some(BOOK_WORDS));
         assert_eq!(defined("GUARD_MONITOR_BYTES"), Some(MONITOR_BYTES));
+        assert_eq!(defined("GUARD_SHEET_BYTES"), Some(SHEET_BYTES));
     }
 
     /// "15 output under 12 bytes: it is unchanged and the call returns 15"; "Later bytes don't change."
@@ -110,6 +124,34 @@ mod tests {
                 assert_eq!(out[..12], [3, 1, 0, 0, 0, 0, 0, 0, 0, 0, 0, 0]);
                 assert!(out[12..].iter().all(|&b| b == 0xA5));
             }
+        }
+    }
+
+    /// "For a book that no sheet gives, the result of this and of later calls on it is free": the call returns, and what it writes is inside the buffer.
+    #[test]
+    fn words_of_no_book() {
+        let mut state = 1u64;
+        let mut random = || {
+            state = state.wrapping_mul(6364136223846793005).wrapping_add(1442695040888963407);
+            state ^ state >> 29
+        };
+        for round in 0..3000 {
+            let word = match round % 4 {
+                0 => 0,
+                1 => u64::MAX,
+                _ => 0x0101_0101_0101_0101,
+            };
+            let tables: Tables = std::array::from_fn(|_| if round % 3 == 0 { word } else { random() });
+            let mut memory = vec![0x5A; 16384];
+            let length = random() as usize % 12000;
+            let written = write(&tables, &mut memory[100..100 + length]);
+            let end = if written == 16u64.wrapping_neg() {
+                0
+            } else {
+                usize::try_from(written).unwrap()
+            };
+            assert!(end <= length && end <= 10894, "{end} of {length}");
+            assert!(memory[..100].iter().chain(&memory[100 + end..]).all(|&b| b == 0x5A));
         }
     }
 

@@ -30,6 +30,31 @@ impl Book {
         opened.map(|_| Book { tables })
     }
 
+    /// Writes the sheet of this book into the buffer: the sheet's own bytes, in its own version. Answers how many they are; later bytes of the buffer stay as they were.
+    ///
+    /// Just the sheet's length is enough, and [`SHEET_BYTES`](crate::SHEET_BYTES) always is. The written bytes open into the same book.
+    ///
+    /// # Errors
+    /// Refusal 16, [`Refusal::BufferShort`]: the buffer is shorter than the sheet, and nothing is written.
+    ///
+    /// ```
+    /// use guard::{Book, Refusal, SHEET_BYTES};
+    /// // rule R of document 01 in a sheet of version 2, which says that name 63 is an output, though no rule has it
+    /// let sheet = [
+    ///     0x4C, 0x4F, 0x42, 2, 0, 0, 0, 0, 0, 0, 0, 0, 0x80, 1, 1, 1, 0, 2, 0, 0, 0, 0, 0, 2, 0, 1, 0, 1, 0, 1, 1, 0, 1, 0,
+    /// ];
+    /// let book = Book::open(&sheet)?;
+    /// let mut buffer = [0; SHEET_BYTES];
+    /// let length = book.write(&mut buffer)?;
+    /// assert_eq!(buffer[..length], sheet);
+    /// assert_eq!(book.write(&mut [0; 33]), Err(Refusal::BufferShort));
+    /// # Ok::<(), guard::Refusal>(())
+    /// ```
+    pub fn write(&self, buffer: &mut [u8]) -> Result<usize, Refusal> {
+        let length = buffer.len();
+        written(ffi::write(&self.tables, buffer), length)
+    }
+
     /// A fresh session under this book.
     pub fn session(&self) -> Session<&Book> {
         Session::under(self)
@@ -46,6 +71,15 @@ impl fmt::Debug for Book {
 fn answer(word: u64, of_sheet: bool) -> Result<Verdict, Refusal> {
     let place = (word >> 32) as u32;
     answer_of(word as u8, (word >> 8) as u8, (word >> 16) as u16, place, of_sheet.then_some(place))
+}
+
+/// A writer's number, for a buffer of this length: so many bytes, or minus a refusal's number in 64 bits. Any other is one that this package doesn't know.
+fn written(word: u64, length: usize) -> Result<usize, Refusal> {
+    match (usize::try_from(word), u8::try_from(word.wrapping_neg())) {
+        (Ok(bytes), _) if bytes <= length => Ok(bytes),
+        (_, Ok(16)) => Err(Refusal::BufferShort),
+        (_, number) => Err(Refusal::unknown(number.unwrap_or(u8::MAX))),
+    }
 }
 
 /// One plugin's session: everything that was observed so far, in one monitor of [`MONITOR_BYTES`](crate::MONITOR_BYTES) bytes.
@@ -169,6 +203,38 @@ mod tests {
         assert_eq!(answer(3 | 11 << 8, false), Err(Refusal::TimeFalls { place: None }));
     }
 
+    #[test]
+    fn a_writers_word() {
+        let minus = |n: u64| n.wrapping_neg();
+        assert_eq!((written(0, 0), written(34, 34), written(34, 5774)), (Ok(0), Ok(34), Ok(34)));
+        assert_eq!([0, 33, 5774].map(|length| written(minus(16), length)), [Err(Refusal::BufferShort); 3]);
+        // what this library never says: more than the buffer has, or another refusal
+        for (word, number) in [
+            (35, 255),
+            (1 << 63, 255),
+            (minus(1), 1),
+            (minus(15), 15),
+            (minus(17), 17),
+            (minus(256), 255),
+        ] {
+            assert_eq!(written(word, 34), Err(Refusal::unknown(number)));
+        }
+    }
+
+    /// "For each accepted sheet, writing its book gives the sheet's own bytes and version, and reading these gives the same book."
+    #[test]
+    fn a_written_book_opens_into_the_same_words() {
+        let mut sheet = *b"LOB\x02\0\0\0\0\0\0\0\0\x80\x01\x01\x01\0\x02\0\0\0\0\x03\x01\0\x03\0\0\0";
+        for v in [0, 3, 65535u16] {
+            sheet[27..].copy_from_slice(&v.to_le_bytes());
+            let book = Book::open(&sheet).unwrap();
+            let mut buffer = [0xA5; 30];
+            assert_eq!(book.write(&mut buffer), Ok(29));
+            assert_eq!((&buffer[..29], buffer[29]), (&sheet[..], 0xA5));
+            assert_eq!(Book::open(&buffer[..29]).unwrap().tables, book.tables);
+        }
+    }
+
     /// A library of another version may give any word: it is an answer, or an error that has its numbers.
     #[test]
     fn any_word_is_a_verdict_or_an_error() {
@@ -179,7 +245,7 @@ mod tests {
                 match answer(u64::from(low) | 6 << 16 | 9 << 32, of_sheet) {
                     Ok(verdict) => assert!(kind < 3 && [0, 6].contains(&verdict.mask())),
                     Err(Refusal::Unknown { answer, number: n, place: p }) => {
-                        assert!((answer, n, p) == (kind, number, place) && (kind > 3 || !(1..=15).contains(&n)))
+                        assert!((answer, n, p) == (kind, number, place) && (kind > 3 || !(1..=16).contains(&n)))
                     }
                     Err(refusal) => assert!(kind == 3 && refusal.number() == number),
                 }

@@ -1,4 +1,4 @@
-//! The cases that tests/host/cases.py takes from the reference: each log by the call, each list of observations by a session. The script says how its file is laid out.
+//! The cases that tests/host/cases.py takes from the reference: each log by the call, each list of observations by a session, each book written back. The script says how its file is laid out.
 
 mod common;
 
@@ -86,6 +86,25 @@ fn hold_session(number: u32, book: &Book, before: u32, bytes: &mut Bytes) -> u32
     count.into()
 }
 
+/// The book's sheet into a buffer that it fills, into one that is longer, and into one that is a byte too short; and what was written is opened and written again.
+fn hold_written(number: u32, book: &Book, sheet: &[u8]) {
+    let mut buffer = vec![0xA5; sheet.len() + 3];
+    assert_eq!(book.write(&mut buffer[..sheet.len() - 1]), Err(Refusal::BufferShort), "case {number}");
+    assert!(buffer.iter().all(|&b| b == 0xA5), "case {number}: a refusal wrote");
+    for length in [sheet.len(), sheet.len() + 3] {
+        assert_eq!(book.write(&mut buffer[..length]), Ok(sheet.len()), "case {number}");
+        assert_eq!(buffer[..sheet.len()], *sheet, "case {number}");
+        assert_eq!(buffer[sheet.len()..], [0xA5; 3], "case {number}");
+    }
+    let again = Book::open(&buffer[..sheet.len()]).unwrap();
+    buffer.fill(0);
+    assert_eq!(
+        (again.write(&mut buffer), &buffer[..sheet.len()]),
+        (Ok(sheet.len()), sheet),
+        "case {number}"
+    );
+}
+
 #[test]
 fn agree_with_the_reference() {
     let file = file();
@@ -101,6 +120,7 @@ fn agree_with_the_reference() {
             Ok(book) => {
                 assert_eq!(due, [0; 4], "case {number}");
                 opened += 1;
+                hold_written(number, &book, sheet);
                 observations += hold_session(number, &book, before, &mut bytes);
             }
             Err(refusal) => {

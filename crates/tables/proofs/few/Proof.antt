@@ -1,7 +1,7 @@
--- `book::few` meets its contract. Assumes nothing.
+-- `tables::few` meets its contract. Assumes nothing.
 use borrow.Author.Tests.{lt-ltb, le-ltb}
-use Rattle.book.proofs.few.Statement.{statement}
-use Rattle.book.proofs.few.Tie as tie
+use Rattle.tables.proofs.few.Statement.{statement}
+use Rattle.tables.proofs.few.Tie as tie
 
 returns : tie.Need-returns
 returns c = simp (lt-ltb _ _ (c .if1 .taken))

@@ -1,0 +1,6 @@
+pub mod Naming
+pub mod Lengths
+pub mod Putting
+pub mod Own
+pub mod Injective
+pub mod Writing
