@@ -191,7 +191,8 @@ pub eight-raised : (x : List ℕ) (i a₀ a₁ a₂ a₃ a₄ a₅ a₆ a₇ : �
     → a₆ ≡ cond (eqb i 6) (saturated (getD x 6 0 + 1)) (getD x 6 0) → a₇ ≡ cond (eqb i 7) (saturated (getD x 7 0 + 1)) (getD x 7 0)
     → (a₀ ∷ a₁ ∷ a₂ ∷ a₃ ∷ a₄ ∷ a₅ ∷ a₆ ∷ a₇ ∷ []) ≡ set x i (saturated (getD x i 0 + 1))
 eight-raised x i a₀ a₁ a₂ a₃ a₄ a₅ a₆ a₇ l h₀ h₁ h₂ h₃ h₄ h₅ h₆ h₇ =
-    eight-set x i (saturated (getD x i 0 + 1)) 0 a₀ a₁ a₂ a₃ a₄ a₅ a₆ a₇ l (h₀ ∙ own 0) (h₁ ∙ own 1) (h₂ ∙ own 2) (h₃ ∙ own 3) (h₄ ∙ own 4) (h₅ ∙ own 5) (h₆ ∙ own 6) (h₇ ∙ own 7)
+    eight-set x i (saturated (getD x i 0 + 1)) 0 a₀ a₁ a₂ a₃ a₄ a₅ a₆ a₇ l
+    (h₀ ∙ own 0) (h₁ ∙ own 1) (h₂ ∙ own 2) (h₃ ∙ own 3) (h₄ ∙ own 4) (h₅ ∙ own 5) (h₆ ∙ own 6) (h₇ ∙ own 7)
   where
     own : (k : ℕ) → cond (eqb i k) (saturated (getD x k 0 + 1)) (getD x k 0) ≡ cond (eqb i k) (saturated (getD x i 0 + 1)) (getD x k 0)
     own k = look (eqb i k) refl

@@ -1,7 +1,7 @@
 -- Ranges without an upper end (document 02, change 2): "In version 2, v = 0 means that u or more occurrences are allowed, so at field v refusal 7 is not given for v = 0; u = 0 still meets it".
 -- What a field v says, by its version; and that no other bytes are affected: the readings on the terms of before and on today's part only at a field v that is 0, in version 2.
 -- Assumes nothing.
-use mathlib.Core.Path.{_≡_, refl, ap, sym, subst, _∙_}
+use mathlib.Core.Path.{_≡_, refl, sym, subst, _∙_}
 use mathlib.Core.Logic.{_⊎_, inl, inr}
 use mathlib.Core.Bool.{true, false}
 use mathlib.Core.List.{List}

@@ -1,7 +1,7 @@
 -- The versions: what version 2 adds affects no other sheet (document 02, change 1: "Version 1 sheets read as before"), and a sheet of version 1 has no shuffled fragment and no v = 0.
 -- Two terms that say the same of a version but for some faults read the rules of its sheets alike but for these (`read-alike`), and before the version's field nothing goes by the terms.
 -- Assumes nothing.
-use mathlib.Core.Path.{_≡_, refl, ap, sym, subst, _∙_}
+use mathlib.Core.Path.{_≡_, refl, sym, subst, _∙_}
 use mathlib.Core.Logic.{_⊎_, inl, inr}
 use mathlib.Core.Bool.{Bool, true, false}
 use mathlib.Core.List.{List, [], _∷_}
@@ -20,7 +20,8 @@ use Rattle.names.specs.Names.{insertAll}
 use Rattle.layout.specs.Terms.{noFault, Terms, base, today}
 use Rattle.layout.specs.Layout.{Sheet, Header, joinNumber, inQ, Directed, EndAllowed, Allowed, WellFormedRule, WellFormedSheet, Bytes}
 use Rattle.layout.specs.Form.{Form, done, _>>=_, ask, Got, next, number, fieldAt, read}
-use Rattle.layout.specs.Reading.{outside, markFault, mostFault, versionFault, rulesFault, kindFault, joinFault, nameFault, triggerSet, rangeName, range, ranges, fragment, fragments, header, rule, rules, sheet, HasVersion, accepted, readSheetOn, readSheet}
+use Rattle.layout.specs.Reading.{outside, markFault, mostFault, versionFault, rulesFault, kindFault, joinFault, nameFault, triggerSet, rangeName, range}
+use Rattle.layout.specs.Reading.{ranges, fragment, fragments, header, rule, rules, sheet, HasVersion, accepted, readSheetOn, readSheet}
 use Rattle.layout.proofs.Alike.{SameOr, Alike, and-after, bind, several-alike, Apart, EqualOrApart, read-alike}
 use Rattle.layout.proofs.Parts.{made}
 use Rattle.layout.proofs.FirstFault.{AtField, is-right, has-fault, at-field}

@@ -7,7 +7,8 @@ use Prim.Native.Nat.{ℕ, zero, suc, _≤_}
 use native.Mathlib.Nat.{le-refl, le-trans}
 use native.Mathlib.Omega.{arith}
 use Rattle.pattern.specs.Lists.{In, Each}
-use Rattle.pattern.specs.Meaning.{Event, names, Range, Fragment, fragmentNames, MatchesOrdering, Kind, once, repeated, timed, Rule, namesOf, TriggeredRound, TimedRound, Rounds, MatchesKind, lastTime, Rising, Broken}
+use Rattle.pattern.specs.Meaning.{Event, names, Range, Fragment, fragmentNames, MatchesOrdering, Kind, once, repeated}
+use Rattle.pattern.specs.Meaning.{timed, Rule, namesOf, TriggeredRound, TimedRound, Rounds, MatchesKind, lastTime, Rising, Broken}
 use Rattle.pattern.specs.Model.{fragmentAt}
 use Rattle.pattern.specs.Endless.{allAt, atOnce, UnderWay}
 

@@ -8,9 +8,9 @@ use mathlib.Core.Bool.{false}
 use mathlib.Core.List.{List, [], _∷_, _++_}
 use Prim.Native.Nat.{ℕ, zero, suc, _≤_}
 use native.Mathlib.Omega.{arith}
-use lib.ListN.{replicate}
 use Rattle.pattern.specs.Lists.{In, Each}
-use Rattle.pattern.specs.Meaning.{Event, names, Range, AtMost, Block, Join, all, any, mayBeLeftOut, shuffled, Fragment, Blocks, Chosen, MatchesFragment, MatchesOrdering, Kind, once, repeated, timed, Rule, TriggeredRound, TimedRound, Rounds, Released, MatchesKind, Matches, Status, broken, whole, open′, Broken, Judged}
+use Rattle.pattern.specs.Meaning.{Event, names, Range, AtMost, Block, Join, all, any, mayBeLeftOut, shuffled, Fragment, Blocks, Chosen, MatchesFragment, MatchesOrdering, Kind}
+use Rattle.pattern.specs.Meaning.{once, repeated, timed, Rule, TriggeredRound, TimedRound, Rounds, Released, MatchesKind, Matches, Status, broken, whole, open′, Broken, Judged}
 use Rattle.pattern.specs.Judge.{Observation, traceOf, latest, EachJudged, Oracle, Right, nothing, judgeAnswers, judgeKeeps}
 use Rattle.pattern.specs.Agreement.{WellFormedRules}
 use Rattle.pattern.specs.Before

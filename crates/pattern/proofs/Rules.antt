@@ -9,7 +9,8 @@ use native.Mathlib.Nat.{le-trans, le-refl}
 use native.Mathlib.Omega.{arith}
 use lib.Dec.{T, eqb, eqb→eq, eqb-refl, leb→le, le→leb, lit≤}
 use Rattle.pattern.specs.Lists.{In, Distinct, isIn}
-use Rattle.pattern.specs.Meaning.{AtMost, Event, names, Range, fragmentNames, orderingNames, MatchesOrdering, Kind, once, repeated, timed, Rule, namesOf, On, TriggeredRound, TimedRound, lastTime, InTime, Released, MatchesKind, Matches, Rising}
+use Rattle.pattern.specs.Meaning.{AtMost, Event, names, Range, fragmentNames, orderingNames, MatchesOrdering, Kind, once, repeated, timed}
+use Rattle.pattern.specs.Meaning.{Rule, namesOf, On, TriggeredRound, TimedRound, lastTime, InTime, Released, MatchesKind, Matches, Rising}
 use Rattle.pattern.specs.Model.{triggerFragment, inTime}
 use Rattle.pattern.proofs.Basics.{is-true, either, in-left, in-right, distinct-left, distinct-right, distinct-apart, isIn→, isIn←}
 use Rattle.pattern.proofs.Rounds.{Takes, Stage, Plan, Ending, again, release, fresh, repeat→, repeat←, OnNames, Triggered, After, To, BeginsLast, Apart, follows, Chain, round}

@@ -3,7 +3,7 @@
 use mathlib.Core.Path.{_≡_, ap, sym, _∙_}
 use mathlib.Core.Logic.{_≢_}
 use Prim.Native.Nat.{ℕ}
-use Rattle.layout.specs.Layout.{Sheet, encode, WellFormedSheet}
+use Rattle.layout.specs.Layout.{Sheet, WellFormedSheet}
 use Rattle.layout.specs.Pages.{ruleAt, rangeAt}
 use Rattle.layout.proofs.Accepted.{same-bytes-same-sheet}
 use Rattle.book.specs.declared.Book.{Book}

@@ -2,17 +2,18 @@
 -- With them the counts, and the name that the code reads at a place.
 -- Assumes nothing.
 use mathlib.Core.Path.{_≡_, refl}
-use mathlib.Core.Bool.{Bool, true, false, cond}
+use mathlib.Core.Bool.{Bool, true, false}
 use mathlib.Core.List.{List}
 use Prim.Native.Nat.{ℕ, zero, suc, _+_, _*_, _≤_, _<_}
-use native.Mathlib.Nat.{suc-mul, add-assoc}
+use native.Mathlib.Nat.{suc-mul}
 use native.Mathlib.Numerals.{add-one}
 use native.Mathlib.Omega.{arith}
 use lib.Dec.{ltb, eqb}
 use lib.ListN.{length, getD, length-append}
 use borrow.Author.Tests.{ltb-true, ltb-false}
-use Rattle.tables.specs.Cells.{lessIn, headAt, firstFrom, standsAt, nameAt}
+use Rattle.tables.specs.Cells.{lessIn, headAt, nameAt}
 use Rattle.tables.proofs.Bounds.{cap-small}
+use Rattle.tables.proofs.Names.{first-few, name-few}
 use Rattle.sheet_writer.specs.Parts.{upTo, cellOf, rangePart, fragmentPart, fragmentsIn, fragmentCount, rulePart, ruleCount, headerPart, tableBytes, mostBytes, Named}
 
 -- ---- parts, one after the other
@@ -39,19 +40,6 @@ module _ (g : ℕ → List ℕ) where
 
 -- ---- the counts
 
--- the first of n numbers is one of them, or the next
-pub first-few : (p : ℕ → Bool) (at n : ℕ) → firstFrom p at n ≤ at + n
-first-few p at zero = omega arith
-first-few p at (suc n) = go (p at) (first-few p (suc at) n)
-  where
-    go : (b : Bool) → firstFrom p (suc at) n ≤ suc at + n → cond b at (firstFrom p (suc at) n) ≤ at + suc n
-    go true next = omega arith
-    go false next = omega arith
-
-pub name-few : (table : List ℕ) (r f i : ℕ) → nameAt table r f i ≤ 64
-unfolding nameAt
-name-few table r f i = first-few (standsAt table r f i) 0 64
-
 pub fragments-few : (head : ℕ) → fragmentCount head ≤ 16
 unfolding fragmentCount
 fragments-few head = cap-small 16 (fragmentsIn head)
@@ -64,7 +52,7 @@ rules-few table = first-few (λ r. eqb (getD table (headAt r) 0) 0) 0 16
 
 module _ (table names : List ℕ) (r f i : ℕ) (at : Named table names × (r < 16) × (f < 16) × (i < 8)) where
   pub name-read : getD names (128 * r + 8 * f + i) 0 ≡ nameAt table r f i
-  name-read = let (named, hr, hf, hi) = at in rw (add-assoc (128 * r) (8 * f) i) (named r f i hr hf hi)
+  name-read = let (named, hr, hf, hi) = at in named r f i hr hf hi
 
   pub read-few : getD names (128 * r + 8 * f + i) 0 ≤ 64
   read-few = rw name-read (name-few table r f i)
@@ -95,10 +83,6 @@ module _ (table : List ℕ) where
   rule-most r =
       let n : ℕ = fragmentCount (getD table (headAt r) 0) in
       omega (arith, rule-length r, upTo-most (fragmentPart table r) 42 n (λ f h. fragment-most r f), fragments-few (getD table (headAt r) 0))
-
-  pub header-length : length (headerPart table) ≡ 14
-  unfolding headerPart
-  header-length = refl
 
   pub table-length : length (tableBytes table) ≡ 14 + length (upTo (rulePart table) (ruleCount table))
   unfolding tableBytes headerPart

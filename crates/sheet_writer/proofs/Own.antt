@@ -1,16 +1,16 @@
 -- The bytes that the table of a sheet's book says are the sheet's own: part by part, each is looked up as the sheet has it.
 -- Assumes nothing.
 use mathlib.Core.Path.{_≡_, refl, sym, _∙_, ap, ap₂, subst}
-use mathlib.Core.Bool.{true, false}
+use mathlib.Core.Bool.{false}
 use mathlib.Core.List.{List, [], _∷_, _++_, append-assoc, append-nil}
-use Prim.Native.Nat.{ℕ, zero, suc, _+_, _*_, _≤_, _<_}
+use Prim.Native.Nat.{ℕ, zero, suc, _+_, _≤_, _<_}
 use native.Mathlib.Omega.{arith}
 use lib.Dec.{eqb}
 use lib.ListN.{length, getD, take, length-append, List·getD-append}
 use lib.Seq.{take-suc, take-length}
 use borrow.Author.Tests.{eq-eqb, ne-eqb}
 use Rattle.bits.specs.Bits.{part}
-use Rattle.pattern.specs.Meaning.{Range, Fragment, Kind, once, repeated, timed, Rule, WellFormedFragment, WellFormed}
+use Rattle.pattern.specs.Meaning.{Fragment, Kind, once, repeated, timed, Rule, WellFormedFragment, WellFormed}
 use Rattle.pattern.specs.Model.{lastFragments, roundOf, noFragment, fragmentAt}
 use Rattle.layout.specs.Layout.{Sheet, le, each, inQ, rangeBytes, fragmentBytes, headerOf, headerBytes, ruleBytes, mark, encode, WellFormedSheet}
 use Rattle.layout.specs.Pages.{headerWord, noRange, noRule, ruleAt, rangeAt}
@@ -102,11 +102,15 @@ module _ (S : Sheet) (b : Book) (formed : WellFormedSheet S) (looks : Looks S b)
           = ap (upTo (rangePart table r f)) (c .less) ∙ parts rangeBytes noRange (rangePart table r f) (fragmentAt rule f .ranges) range-own in
           λ k. le 1 (c .join k) ++ (le 1 (c .less k) ++ e k)
 
-    count-own : fragmentCount (headerWord (headerOf rule)) ≡ length (rule .p ++ inQ (rule .kind))
+    -- the sheet's own fragments of the rule
+    abbrev fragments : List Fragment
+    fragments = rule .p ++ inQ (rule .kind)
+
+    count-own : fragmentCount (headerWord (headerOf rule)) ≡ length fragments
     unfolding fragmentCount
     count-own =
         let h = looks-head rule well in
-        let e : length (rule .p) + length (inQ (rule .kind)) ≡ length (rule .p ++ inQ (rule .kind)) = sym (length-append (rule .p) (inQ (rule .kind))) in
+        let e : length (rule .p) + length (inQ (rule .kind)) ≡ length fragments = sym (length-append (rule .p) (inQ (rule .kind))) in
         rw (h .countP, h .countQ, e) (cap-of 16 _ (omega (arith, no-more (rule .kind) (rule .p), round-few rule well)))
 
     header-own : le 8 (headerWord (headerOf rule)) ≡ headerBytes (headerOf rule)
@@ -116,9 +120,9 @@ module _ (S : Sheet) (b : Book) (formed : WellFormedSheet S) (looks : Looks S b)
 
     rule-own : rulePart table r ≡ ruleBytes rule
     unfolding rulePart
-    rule-own = rw (looks .head r here, count-own) (ap₂ (λ (a b : List ℕ). a ++ b) header-own (parts fragmentBytes noFragment (fragmentPart table r) (rule .p ++ inQ (rule .kind)) own ∙ each-++ fragmentBytes (rule .p) (inQ (rule .kind))))
+    rule-own = rw (looks .head r here, count-own) (λ k. header-own k ++ (parts fragmentBytes noFragment (fragmentPart table r) fragments own ∙ each-++ fragmentBytes (rule .p) (inQ (rule .kind))) k)
       where
-        own : (f : ℕ) → f < length (rule .p ++ inQ (rule .kind)) → fragmentPart table r f ≡ fragmentBytes (getD (rule .p ++ inQ (rule .kind)) f noFragment)
+        own : (f : ℕ) → f < length fragments → fragmentPart table r f ≡ fragmentBytes (getD fragments f noFragment)
         own f h = fragment-own f (omega (arith, h, no-more (rule .kind) (rule .p))) ∙ ap fragmentBytes (fragment-of (rule .kind) (rule .p) f h)
 
   rules-own : ruleCount table ≡ length (S .rules)

@@ -8,7 +8,7 @@ use lib.ListN.{length, getD, length-append}
 use lib.Seq.{sets, length-sets}
 use Rattle.layout.specs.Layout.{rangeBytes}
 use Rattle.store.proofs.Stores.{sets-append}
-use Rattle.sheet_writer.specs.Parts.{joinField, upTo, cellOf, rangeIn, rangePart, Named}
+use Rattle.sheet_writer.specs.Parts.{upTo, cellOf, rangeIn, rangePart, Named}
 use Rattle.sheet_writer.proofs.Lengths.{room-of, name-read}
 
 -- `out` is `l` with the first k parts from `at` on, and they end at `end`

@@ -57,7 +57,7 @@ module _ (table before : List ℕ) (n : ℕ) (size : n ≡ length (tableBytes ta
 -- ---- for each accepted sheet
 
 -- s is the sheet S in bytes, and the table is its book's
-module _ {table before : List ℕ} {r : Written} {after : List ℕ} (writes : Writes table before r after) (s : List ℕ) (S : Sheet) (b : Book) (accepts : Accepts today s S) (looks : Looks S b) (is : b .table ≡ table) where
+module _ {table before after : List ℕ} {r : Written} (writes : Writes table before r after) (s : List ℕ) (S : Sheet) (b : Book) (accepts : Accepts today s S) (looks : Looks S b) (is : b .table ≡ table) where
   call : record { answer = answerOf r; buffer = after } ≡ writingOf s before
   call = writes .call ∙ ap (λ (l : List ℕ). writingOf l before) (writes .own S b (accepts .formed) looks is ∙ sym (accepts .bytes))
 

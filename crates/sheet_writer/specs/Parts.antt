@@ -82,7 +82,7 @@ mostBytes = 10894
 -- ---- the names by their places
 
 abbrev pub placeAt : ℕ → ℕ → ℕ → ℕ
-placeAt r f i = 128 * r + (8 * f + i)
+placeAt r f i = 128 * r + 8 * f + i
 
 -- so many places: 16 rules, of 16 fragments, of 8 ranges
 abbrev pub placeCount : ℕ

@@ -29,6 +29,20 @@ first-at p m (suc n) at l h none here = go (same? at m) (λ k. first-at p m n (s
     go (inl e) later = rw (ap p e ∙ here (omega (arith, e))) e
     go (inr ne) later = rw (none at (omega (arith, l, ne))) (later (omega (arith, l, ne)))
 
+-- the first of n numbers is one of them, or the next
+pub first-few : (p : ℕ → Bool) (at n : ℕ) → firstFrom p at n ≤ at + n
+first-few p at zero = omega arith
+first-few p at (suc n) = go (p at) (first-few p (suc at) n)
+  where
+    go : (b : Bool) → firstFrom p (suc at) n ≤ suc at + n → cond b at (firstFrom p (suc at) n) ≤ at + suc n
+    go true next = omega arith
+    go false next = omega arith
+
+-- every place has a name, or 64
+pub name-few : (table : List ℕ) (r f i : ℕ) → nameAt table r f i ≤ 64
+unfolding nameAt
+name-few table r f i = first-few (standsAt table r f i) 0 64
+
 module _ {table : List ℕ} {rules : List Rule} (holds : HoldsRules table rules) (r : ℕ) (here : r < length rules) (formed : WellFormed (ruleAt rules r)) where
   abbrev rule : Rule
   rule = ruleAt rules r

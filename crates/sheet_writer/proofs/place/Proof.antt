@@ -75,13 +75,26 @@ element-write-names : tie.Need-element-write-names Inv-loop μ-loop
 element-write-names c = search needs
 
 loop-less : tie.Need-loop-less Inv-loop μ-loop
-loop-less c = c .before .before .before .rest .ensures _ (c .before .before .before .before .before .loop-test .taken) (c .before .before .before .before .lowest .ensures) .fewer (c .before .before .before .before .lowest .ensures .inside (c .before .before .before .before .before .loop-test .taken))
+loop-less c =
+    let rest = c .before .before .before in
+    let low = rest .before .lowest .ensures in
+    let some = rest .before .before .loop-test .taken in
+    rest .rest .ensures _ some low .fewer (low .inside some)
 
 loop-again : tie.Need-loop-again Inv-loop μ-loop
-loop-again c = let some = c .before .before .before .before .before .loop-test .taken in placing-more _ _ _ (c .before .before .before .before .before .before .loop .inv) _ (c .before .before .before .before .lowest .ensures .rule) (c .before .before .before .before .lowest .ensures .inside some) (c .before .before .before .rest .ensures _ some (c .before .before .before .before .lowest .ensures)) (c .before .fragment-in .ensures) (c .index-in .ensures)
+loop-again c =
+    let rest = c .before .before .before in
+    let low = rest .before .lowest .ensures in
+    let turn = rest .before .before in
+    let some = turn .loop-test .taken in
+    placing-more _ _ _ (turn .before .loop .inv) _ (low .rule) (low .inside some) (rest .rest .ensures _ some low) (c .before .fragment-in .ensures) (c .index-in .ensures)
 
 returns : tie.Need-returns Inv-loop μ-loop
 returns c = placing-end _ _ _ (omega (arith, c .loop-test .left)) (c .before .loop .inv)
 
 pub place-spec : {M : Type 1} → statement M
-place-spec = tie.close (tie.spec Inv-loop μ-loop mul-mask-in element-copy-out-mask-in mask-in-requires loop-holds lowest-requires rest-requires mul-cell add-cell add-cell-2 mul-cell-2 element-copy-out-cell fragment-in-requires cast-f index-in-requires cast-i cast-names mul-names mul-names-2 add-names add-names-2 element-write-names loop-less loop-again returns)
+place-spec =
+    tie.close
+    (tie.spec
+    Inv-loop μ-loop mul-mask-in element-copy-out-mask-in mask-in-requires loop-holds lowest-requires rest-requires mul-cell add-cell add-cell-2 mul-cell-2 element-copy-out-cell
+    fragment-in-requires cast-f index-in-requires cast-i cast-names mul-names mul-names-2 add-names add-names-2 element-write-names loop-less loop-again returns)

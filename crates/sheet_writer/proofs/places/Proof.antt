@@ -28,7 +28,15 @@ loop-less : tie.Need-loop-less Inv-loop μ-loop
 loop-less c = omega (arith, c .before .before .loop-test .taken)
 
 loop-again : tie.Need-loop-again Inv-loop μ-loop
-loop-again c = let m = c .before .before .before .loop .n in (omega (arith, c .before .before .before .loop .inv .0), c .place .ensures .size, naming-more (c .before .before .before .before .args .table .now) _ _ m (m - 1) (omega (arith, c .before .before .before .loop .inv .0, c .before .before .loop-test .taken)) (omega (arith, c .before .before .loop-test .taken)) (c .before .before .before .loop .inv .2) (c .place .ensures))
+loop-again c =
+    let at = c .before .before .before in
+    let few = at .loop .inv .0 in
+    let some = c .before .before .loop-test .taken in
+    let m = at .loop .n in (
+      omega (arith, few),
+      c .place .ensures .size,
+      naming-more (at .before .args .table .now) _ _ m (m - 1) (omega (arith, few, some)) (omega (arith, some)) (at .loop .inv .2) (c .place .ensures),
+    )
 
 returns : tie.Need-returns Inv-loop μ-loop
 returns c = naming-end (c .before .before .args .table .now) (c .before .loop .names) (c .before .loop .n) (omega (arith, c .loop-test .left)) (c .before .loop .inv .2)

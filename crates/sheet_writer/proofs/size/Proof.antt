@@ -3,7 +3,6 @@ use mathlib.Core.Path.{_≡_, refl}
 use Prim.Native.Nat.{_+_, _*_, _-_, _≤_}
 use native.Mathlib.Omega.{arith}
 use lib.ListN.{length}
-use borrow.Author.Needs.{needs}
 use Rattle.sheet_writer.specs.Parts.{upTo, rulePart}
 use Rattle.sheet_writer.proofs.Lengths.{upTo-next, rules-few, rule-most, table-length}
 use Rattle.sheet_writer.proofs.size.Statement.{statement}

@@ -17,13 +17,18 @@ put-sheet-requires : tie.Need-put-sheet-requires
 put-sheet-requires c κs = search needs
 
 returns : tie.Need-returns
-returns c = writes-nothing (c .before .before .before .before .before .before .args .table .now) (c .before .before .before .before .before .before .args .buffer .now) _ (c .before .size .ensures) (c .if1 .taken)
+returns c =
+    let s = c .before .before .before .before .before .before .args in
+    writes-nothing (s .table .now) (s .buffer .now) _ (c .before .size .ensures) (c .if1 .taken)
 
 same-length : tie.Need-same-length
 same-length c = search needs
 
 returns-2 : tie.Need-returns-2
-returns-2 c = writes-all (c .before .before .before .before .before .before .before .before .before .before .before .args .table .now) (c .before .before .before .before .before .before .before .before .before .before .before .args .buffer .now) _ (c .before .before .before .before .before .before .size .ensures) _ (c .before .before .before .before .before .if1 .left) (c .before .before .put-sheet .ensures)
+returns-2 c =
+    let t = c .before .before .before .before .before in
+    let s = t .before .before .before .before .before .before .args in
+    writes-all (s .table .now) (s .buffer .now) _ (t .before .size .ensures) _ (t .if1 .left) (c .before .before .put-sheet .ensures)
 
 pub write-spec : {M : Type 1} → statement M
 write-spec = tie.close (tie.spec places-requires rule-count-requires size-requires returns put-sheet-requires same-length returns-2)
