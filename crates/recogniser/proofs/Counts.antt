@@ -8,8 +8,9 @@ use native.Mathlib.Omega.{arith}
 use lib.Dec.{leb, ltb}
 use borrow.Author.Tests.{le-leb, lt-leb, lt-ltb, le-ltb, leb-true, leb-false, ltb-true, ltb-false}
 use Rattle.pattern.specs.Meaning.{Range, Join}
-use Rattle.pattern.specs.Recogniser.{State, idle, unbegun, waiting, counting, done, error, Class, own, sibling, next, other, hasEnough, hasRoom, move}
+use Rattle.pattern.specs.Recogniser.{State, Class, hasEnough, hasRoom, move}
 use Rattle.recogniser.specs.Counts.{saturated}
+use Rattle.recogniser.proofs.Moves.{same-conditions}
 
 pub one-more : (count : ℕ) → saturated (saturated count + 1) ≡ saturated (suc count)
 unfolding saturated
@@ -43,21 +44,4 @@ module _ (r : Range) (u : r .u ≤ 65535) (v : r .v ≤ 65535) (count : ℕ) whe
 
   -- and a move asks nothing else of a count
   pub same-move : (j : Join) (s : State) (class : Class) → move j r (saturated count) s class ≡ move j r count s class
-  same-move j idle class = refl
-  same-move j unbegun own = refl
-  same-move j unbegun sibling = refl
-  same-move j unbegun next = refl
-  same-move j unbegun other = refl
-  same-move j waiting own = refl
-  same-move j waiting sibling = refl
-  same-move j waiting next = refl
-  same-move j waiting other = refl
-  same-move j counting own = rw (same-tests .1)
-  same-move j counting sibling = rw (same-tests .0)
-  same-move j counting next = rw (same-tests .0)
-  same-move j counting other = refl
-  same-move j done own = refl
-  same-move j done sibling = refl
-  same-move j done next = refl
-  same-move j done other = refl
-  same-move j error class = refl
+  same-move j = same-conditions j j r r (saturated count) count (same-tests .1) (same-tests .0) refl refl

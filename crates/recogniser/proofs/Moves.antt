@@ -1,52 +1,71 @@
--- The code's table of moves against document 01's. "Six-by-four constant move table, its rule carried to each entry by one computed test": antt computes what the
--- entries say and what `move` says, the conditions left open, and `entry` carries it to any two numbers. Assumes nothing.
+-- The formula against document 01's table, `move`: antt computes both at all six states and four classes, for each of the sixteen outcomes of the four conditions (`test`), and `formula-is` carries
+-- it to any two numbers. What a move asks follows: the four conditions and nothing else (`same-conditions`). Assumes nothing.
 use mathlib.Core.Path.{_≡_, refl, sym, ap, ap₂, _∙_}
-use mathlib.Core.List.{List, [], _∷_, map}
-use Prim.Native.Nat.{ℕ, _+_, _*_, _/_, _%_, min}
+use mathlib.Core.Bool.{Bool, true, false}
+use Prim.Native.Nat.{ℕ, min}
 use native.Mathlib.Omega.{arith}
-use lib.ListN.{getD}
-use Rattle.pattern.specs.Meaning.{Join, Range}
-use Rattle.pattern.specs.Recogniser.{State, stateNumber, Class, move}
+use Rattle.names.specs.Names.{member}
+use Rattle.pattern.specs.Meaning.{Join, Range, mayBeLeftOut, shuffled}
+use Rattle.pattern.specs.Recogniser.{State, stateNumber, Class, hasEnough, hasRoom, move}
 use Rattle.recogniser.specs.Numbers.{stateOf, classNumber, classOf, joinNumber, bounds, nextState}
-use Rattle.recogniser.specs.Entries.{entryState, IsEntry}
+use Rattle.recogniser.specs.Formula.{formula}
 use Rattle.recogniser.proofs.Numbers.{state-back, class-back, join-back, state-number, class-number}
-use Rattle.recogniser.proofs.Table.{places, at}
-
--- the code's constant; the proof of `look_up` holds the two together
-abbrev pub table : List ℕ
-table =
-    0 ∷ 0 ∷ 0 ∷ 0
-    ∷ 3 ∷ 2 ∷ 5 ∷ 5
-    ∷ 3 ∷ 2 ∷ 9 ∷ 5
-    ∷ 6 ∷ 7 ∷ 8 ∷ 5
-    ∷ 5 ∷ 4 ∷ 0 ∷ 5
-    ∷ 5 ∷ 5 ∷ 5 ∷ 5 ∷ []
+use Rattle.recogniser.proofs.Table.{table, at}
 
 module _ (j : Join) (r : Range) (count : ℕ) where
-  -- what document 01's table says of place k, in row k / 4 and column k % 4
-  abbrev rule : ℕ → State
-  rule k = move j r count (stateOf (k / 4)) (classOf (k % 4))
+  -- what document 01's table says
+  abbrev rule : ℕ → ℕ → ℕ
+  rule state class = stateNumber (move j r count (stateOf state) (classOf class))
 
-  -- the one test of all 24 entries, for every join, range and count at once
-  test : map (entryState j r count) table ≡ places rule 0 24
-  test = refl
+  -- and what the formula says, for an outcome of the conditions
+  abbrev said : Bool → Bool → Bool → Bool → ℕ → ℕ → ℕ
+  said a b c d state class = formula state class a b c d
 
-pub entry : (state class : ℕ) → IsEntry state class (getD table (4 * min state 5 + min class 3) 0)
-entry state class j r count =
-    let k : ℕ = 4 * min state 5 + min class 3 in
-    let row : k / 4 ≡ min state 5 = omega arith in
-    let column : k % 4 ≡ min class 3 = omega arith in
-    at (entryState j r count) (rule j r count) table (test j r count) k (omega arith)
-    ∙ ap₂ (move j r count)
-    (ap stateOf (row ∙ sym (state-number state)) ∙ state-back (stateOf state))
-    (ap classOf (column ∙ sym (class-number class)) ∙ class-back (classOf class))
+  -- the one test of all 24 entries
+  test : (a b c d : Bool) → hasRoom r count ≡ a → hasEnough r count ≡ b → mayBeLeftOut j ≡ c → shuffled j ≡ d → table 6 4 (said a b c d) ≡ table 6 4 rule
+  unfolding formula member
+  test true true true true p q x y = rw (p, q, x, y)
+  test true true true false p q x y = rw (p, q, x, y)
+  test true true false true p q x y = rw (p, q, x, y)
+  test true true false false p q x y = rw (p, q, x, y)
+  test true false true true p q x y = rw (p, q, x, y)
+  test true false true false p q x y = rw (p, q, x, y)
+  test true false false true p q x y = rw (p, q, x, y)
+  test true false false false p q x y = rw (p, q, x, y)
+  test false true true true p q x y = rw (p, q, x, y)
+  test false true true false p q x y = rw (p, q, x, y)
+  test false true false true p q x y = rw (p, q, x, y)
+  test false true false false p q x y = rw (p, q, x, y)
+  test false false true true p q x y = rw (p, q, x, y)
+  test false false true false p q x y = rw (p, q, x, y)
+  test false false false true p q x y = rw (p, q, x, y)
+  test false false false false p q x y = rw (p, q, x, y)
 
-module _ (j : Join) (r : Range) (count : ℕ) where
-  -- a range's name has no part in a move
-  nameless : (state class : ℕ) → move j (bounds (r .u) (r .v)) count (stateOf state) (classOf class) ≡ move j r count (stateOf state) (classOf class)
-  nameless state class = sym (entry state class j (bounds (r .u) (r .v)) count) ∙ entry state class j r count
+  -- the formula of the four conditions
+  abbrev by : ℕ → ℕ → ℕ
+  by = said (hasRoom r count) (hasEnough r count) (mayBeLeftOut j) (shuffled j)
 
-  -- the move in numbers is the move of any range with these bounds
-  pub next-state : (s : State) (c : Class) → nextState (stateNumber s) (classNumber c) (joinNumber j) count (r .u) (r .v) ≡ stateNumber (move j r count s c)
-  unfolding nextState
-  next-state s c = simp join-back (ap stateNumber (nameless (stateNumber s) (classNumber c)) ∙ simp (state-back, class-back))
+  -- for any two numbers: one past the last that is in use stands for the last
+  pub formula-is : (state class : ℕ) → by (min state 5) (min class 3) ≡ rule state class
+  formula-is state class =
+      at 6 4 by rule (test _ _ _ _ refl refl refl refl) (min state 5) (min class 3) (omega arith) (omega arith)
+      ∙ ap₂ (λ (s : State) (c : Class). stateNumber (move j r count s c))
+      (ap stateOf (sym (state-number state)) ∙ state-back (stateOf state))
+      (ap classOf (sym (class-number class)) ∙ class-back (classOf class))
+
+  -- of a state and a class, by their numbers
+  move-number : (s : State) (c : Class) → by (min (stateNumber s) 5) (min (classNumber c) 3) ≡ stateNumber (move j r count s c)
+  move-number s c = formula-is (stateNumber s) (classNumber c) ∙ ap₂ (λ (x : State) (y : Class). stateNumber (move j r count x y)) (state-back s) (class-back c)
+
+-- a move asks the four conditions and nothing else
+pub same-conditions : (j k : Join) (r q : Range) (n m : ℕ) → hasRoom r n ≡ hasRoom q m → hasEnough r n ≡ hasEnough q m → mayBeLeftOut j ≡ mayBeLeftOut k → shuffled j ≡ shuffled k
+    → (s : State) (c : Class) → move j r n s c ≡ move k q m s c
+same-conditions j k r q n m room enough optional mixed s c =
+    let same : by j r n (min (stateNumber s) 5) (min (classNumber c) 3) ≡ by k q m (min (stateNumber s) 5) (min (classNumber c) 3) = rw (room, enough, optional, mixed) in
+    sym (state-back (move j r n s c)) ∙ ap stateOf (sym (move-number j r n s c) ∙ same ∙ move-number k q m s c) ∙ state-back (move k q m s c)
+
+-- the move in numbers is the move of any range with these bounds: its name has no part in a move
+pub next-state : (j : Join) (r : Range) (count : ℕ) (s : State) (c : Class)
+    → nextState (stateNumber s) (classNumber c) (joinNumber j) count (r .u) (r .v) ≡ stateNumber (move j r count s c)
+unfolding nextState
+next-state j r count s c = simp (join-back, state-back, class-back) (ap stateNumber (same-conditions j j (bounds (r .u) (r .v)) r count count refl refl refl refl s c))

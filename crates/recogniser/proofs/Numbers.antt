@@ -1,7 +1,7 @@
 -- Document 01's numbers, there and back: a state, a class and a join stay the same, and a number past the last that is in use becomes the last. Assumes nothing.
-use mathlib.Core.Path.{_≡_, refl, sym, ap, _∙_}
+use mathlib.Core.Path.{_≡_, refl}
 use mathlib.Core.Bool.{Bool, true, false}
-use Prim.Native.Nat.{ℕ, zero, suc, _<_, min}
+use Prim.Native.Nat.{ℕ, zero, suc, min}
 use native.Mathlib.Omega.{arith}
 use Rattle.pattern.specs.Meaning.{Join, all, any, allShuffled, anyShuffled, mayBeLeftOut, shuffled}
 use Rattle.pattern.specs.Recogniser.{State, idle, unbegun, waiting, counting, done, error, stateNumber, Class, own, sibling, next, other}
@@ -34,9 +34,6 @@ state-number (suc (suc zero)) = refl
 state-number (suc (suc (suc zero))) = refl
 state-number (suc (suc (suc (suc zero)))) = refl
 state-number (suc (suc (suc (suc (suc n))))) = omega arith
-
-pub state-error : (n : ℕ) → 4 < n → stateOf n ≡ error
-state-error n h = let last : min n 5 ≡ 5 = omega arith in sym (state-back (stateOf n)) ∙ ap stateOf (state-number n ∙ last)
 
 pub class-number : (n : ℕ) → classNumber (classOf n) ≡ min n 3
 class-number zero = refl

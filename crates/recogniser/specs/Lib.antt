@@ -1,3 +1,3 @@
 pub mod Numbers
-pub mod Entries
+pub mod Formula
 pub mod Counts

@@ -1,13 +1,13 @@
 // The recogniser of a range (document 01): one move, in document 01's numbers, and the count one event later. Every number stands for a state, a class or a join, so nothing is asked of them.
-// `next_state` is what a caller asks: the entry of the table of moves for a state and a class, and the state that this entry says.
+// `next_state` is what a caller asks. Its inside is a formula (document 02, change 4): no table is looked up, and no branch is taken where the compiler selects, as it does on x86-64.
 ghost use mathlib.Core.Path.{_≡_};
 ghost use mathlib.Core.Bool.{cond, _||_};
-ghost use Prim.Native.Nat.{_+_, _≤_, min};
+ghost use Prim.Native.Nat.{_+_, _<_, min};
 ghost use lib.Dec.{leb, ltb, eqb};
+ghost use Rattle.bits.specs.Bits.{flag};
 ghost use Rattle.pattern.specs.Meaning.{mayBeLeftOut, shuffled};
-ghost use Rattle.pattern.specs.Recogniser.{stateNumber};
-ghost use Rattle.recogniser.specs.Numbers.{joinOf, bounds, nextState};
-ghost use Rattle.recogniser.specs.Entries.{entryState, IsEntry};
+ghost use Rattle.recogniser.specs.Numbers.{joinOf, nextState};
+ghost use Rattle.recogniser.specs.Formula.{setOf, takersOf, leadsTo, formula};
 ghost use Rattle.recogniser.specs.Counts.{saturated};
 
 // "0 idle, 1 fragment not begun, 2 waiting while a sibling has begun, 3 counting, 4 done, 5 error".
@@ -23,48 +23,14 @@ const DONE: u8 = 4;
 
 const ERROR: u8 = 5;
 
-// The last class: own, sibling, next and other are 0 to 3.
+// "own, sibling (same fragment), next (a name of the following fragment; ..) or other".
+const OWN: u8 = 0;
+
+const SIBLING: u8 = 1;
+
+const NEXT: u8 = 2;
+
 const OTHER: u8 = 3;
-
-// Entries of the table that are no state but a move with a condition. "3 if count < v, else 5", and where v is 0 always 3:
-const COUNTING_IF_ROOM: u8 = 6;
-
-// 3 if shuffled, else 4 if count ≥ u, else 5:
-const CLOSED_BY_SIBLING: u8 = 7;
-
-// "0 if count ≥ u, else 5":
-const IDLE_IF_ENOUGH: u8 = 8;
-
-// 0 if the range may be left out, else 5:
-const IDLE_IF_LEFT_OUT: u8 = 9;
-
-// "The moves are one constant table of states against classes": six rows of four, from | own | sibling | next | other. "0 and 5 stay."
-const MOVES: [u8; 24] = [
-    IDLE, // from 0 idle | 0 | 0 | 0 | 0
-    IDLE,
-    IDLE,
-    IDLE,
-    COUNTING, // from 1 fragment not begun | 3 | 2 | 5 | 5
-    WAITING,
-    ERROR,
-    ERROR,
-    COUNTING, // from 2 waiting | 3 | 2 | 0 if it may be left out, else 5 | 5
-    WAITING,
-    IDLE_IF_LEFT_OUT,
-    ERROR,
-    COUNTING_IF_ROOM, // from 3 counting | 3 if count < v or v = 0, else 5 | 3 if shuffled, else 4 if count ≥ u, else 5 | 0 if count ≥ u, else 5 | 5
-    CLOSED_BY_SIBLING,
-    IDLE_IF_ENOUGH,
-    ERROR,
-    ERROR, // from 4 done | 5 | 4 | 0 | 5
-    DONE,
-    IDLE,
-    ERROR,
-    ERROR, // from 5 error | 5 | 5 | 5 | 5
-    ERROR,
-    ERROR,
-    ERROR,
-];
 
 // n, or most where n is above it.
 fn at_most(n: u8, most: u8) -> u8
@@ -73,30 +39,16 @@ fn at_most(n: u8, most: u8) -> u8
     if n < most { n } else { most }
 }
 
-// The entry of a row of the table for a class. Every number above 3 is *other*.
-fn look_up(row: u8, class: u8) -> u8
-    requires { ⌜ row ≤ 5 ⌝ }
-    ensures { λ r. ⌜ IsEntry row class r ⌝ }
+// One number where a condition holds, another where it does not.
+fn select(holds: bool, yes: u8, no: u8) -> u8
+    ensures { λ r. ⌜ r ≡ cond holds yes no ⌝ }
 {
-    MOVES[4 * row as usize + at_most(class, OTHER) as usize]
+    if holds { yes } else { no }
 }
 
-// The entry for a state and a class. Every number above 5 is an error. An arm has its row as a constant: where the class is one too, the compiler knows the entry, and the table is not
-// written to the stack to be looked up.
-fn entry(state: u8, class: u8) -> u8
-    ensures { λ r. ⌜ IsEntry state class r ⌝ }
-{
-    match state {
-        IDLE => look_up(IDLE, class),
-        UNBEGUN => look_up(UNBEGUN, class),
-        WAITING => look_up(WAITING, class),
-        COUNTING => look_up(COUNTING, class),
-        DONE => look_up(DONE, class),
-        _ => look_up(ERROR, class),
-    }
-}
+// ---- the four conditions of the moves
 
-// The four conditions of the moves. A range that has not begun may be left out of a fragment of this join: "0 all, 1 any", "2 all shuffled and 3 any shuffled".
+// A range that has not begun may be left out of a fragment of this join: "0 all, 1 any", "2 all shuffled and 3 any shuffled".
 fn may_be_left_out(join: u8) -> bool
     ensures { λ r. ⌜ r ≡ mayBeLeftOut (joinOf join) ⌝ }
 {
@@ -124,34 +76,69 @@ fn has_room(count: u16, v: u16) -> bool
     (v == 0) | (count < v)
 }
 
-// One state where a condition holds, another where it does not.
-fn select(holds: bool, yes: u8, no: u8) -> u8
-    ensures { λ r. ⌜ r ≡ cond holds yes no ⌝ }
+// ---- the formula: which states take an event of a class without error, and where it leads them
+
+// 1 for yes.
+fn flag(yes: bool) -> u8
+    ensures { λ r. ⌜ (r ≡ flag yes) × (r < 2) ⌝ }
 {
-    if holds { yes } else { no }
+    if yes { 1 } else { 0 }
 }
 
-// The state that an entry of the table says, for a range with bounds u and v in a fragment of this join, where count of its events have come. The last arm is `IDLE_IF_LEFT_OUT`.
-fn decided(entry: u8, join: u8, count: u16, u: u16, v: u16) -> u8
-    ensures { λ r. ⌜ r ≡ stateNumber (entryState (joinOf join) (bounds u v) count entry) ⌝ }
+// A set of states, with bit s for state s. "0 and 5 stay": neither is in any.
+fn set_of(unbegun: bool, waiting: bool, counting: bool, done: bool) -> u8
+    ensures { λ r. ⌜ r ≡ setOf unbegun waiting counting done ⌝ }
 {
-    match entry {
-        IDLE..=ERROR => entry,
-        COUNTING_IF_ROOM => select(has_room(count, v), COUNTING, ERROR),
-        CLOSED_BY_SIBLING => {
-            let closed = select(has_enough(count, u), DONE, ERROR);
-            select(is_shuffled(join), COUNTING, closed)
-        }
-        IDLE_IF_ENOUGH => select(has_enough(count, u), IDLE, ERROR),
-        _ => select(may_be_left_out(join), IDLE, ERROR),
-    }
+    2 * flag(unbegun) + 4 * flag(waiting) + 8 * flag(counting) + 16 * flag(done)
 }
 
-// The state after an event of a class, for a range with bounds u and v in a fragment of this join, where count of its events have come.
+// The states that take an event of a class. 1 takes *own* and *sibling*; 2 these and, where it may be left out, *next*; 3 *own* where it has room, *sibling* where blocks are shuffled or it has
+// enough, and *next* where it has enough; 4 *sibling* and *next*.
+fn takers(class: u8, room: bool, enough: bool, optional: bool, shuffled: bool) -> u8
+    ensures { λ r. ⌜ r ≡ takersOf class room enough optional shuffled ⌝ }
+{
+    let own = class == OWN;
+    let sibling = class == SIBLING;
+    let next = class == NEXT;
+    set_of(
+        own | sibling,
+        own | sibling | (next & optional),
+        (own & room) | (sibling & (shuffled | enough)) | (next & enough),
+        sibling | next,
+    )
+}
+
+// Where it leads such a state. *own*: to 3; *sibling*: from 1 to 2, from 3, unless blocks are shuffled, to 4, and the others stay; *next*: to 0.
+fn leads_to(state: u8, class: u8, shuffled: bool) -> u8
+    ensures { λ r. ⌜ r ≡ leadsTo state class shuffled ⌝ }
+{
+    let closed = select((state == COUNTING) & !shuffled, DONE, state);
+    let beside = select(state == UNBEGUN, WAITING, closed);
+    let not_own = select(class == SIBLING, beside, IDLE);
+    select(class == OWN, COUNTING, not_own)
+}
+
+// Idle stays, and a state that does not take the event is an error.
+fn formula(state: u8, class: u8, room: bool, enough: bool, optional: bool, shuffled: bool) -> u8
+    ensures { λ r. ⌜ r ≡ formula state class room enough optional shuffled ⌝ }
+{
+    let taken = masks::holds(takers(class, room, enough, optional, shuffled), state);
+    let to = select(taken, leads_to(state, class, shuffled), ERROR);
+    select(state == IDLE, IDLE, to)
+}
+
+// The state after an event of a class, for a range with bounds u and v in a fragment of this join, where count of its events have come. Every number above 5 is an error, and above 3 other.
 pub fn next_state(state: u8, class: u8, join: u8, count: u16, u: u16, v: u16) -> u8
     ensures { λ r. ⌜ r ≡ nextState state class join count u v ⌝ }
 {
-    decided(entry(state, class), join, count, u, v)
+    formula(
+        at_most(state, ERROR),
+        at_most(class, OTHER),
+        has_room(count, v),
+        has_enough(count, u),
+        may_be_left_out(join),
+        is_shuffled(join),
+    )
 }
 
 // ---- the count

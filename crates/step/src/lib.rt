@@ -51,7 +51,7 @@ fn broken(st: RuleState) -> Stepped
     }
 }
 
-// ---- the table of moves, asked with a state and a class that are constants: the compiler knows the entry
+// ---- a move, asked with a state and a class that are constants: of the formula the compiler leaves the one condition that such a move has
 
 // A move of the cell's range, where so many of its events have come.
 fn moved(cell: u64, state: u8, class: u8, count: u16) -> u8
