@@ -2,7 +2,7 @@
 -- Assumes nothing.
 use mathlib.Core.Path.{_≡_, refl, sym, _∙_, ap, ap₂, subst}
 use mathlib.Core.Logic.{_≢_}
-use mathlib.Core.Bool.{Bool, true, false, cond, not, _&&_}
+use mathlib.Core.Bool.{Bool, true, false, cond, not, _&&_, and-true, and-eq-true-iff}
 use mathlib.Core.List.{List}
 use Prim.Native.Nat.{ℕ, suc, _+_, _-_, _*_, _<_}
 use native.Mathlib.Omega.{arith}
@@ -70,18 +70,10 @@ module _ (table : List ℕ) (n : ℕ) (before : List ℕ) where
     turn : Placing left (set names at n)
     turn = record {
       size = length-set names at n ∙ p .size;
-      held = λ r e. p .held r (first (member todo r) (not (eqb r low)) (sym (less .members r) ∙ e));
+      held = λ r e. p .held r (and-eq-true-iff (member todo r) (not (eqb r low)) .0 (sym (less .members r) ∙ e) .0);
       place = λ r f i a b c. go r f i a b c (eqb r low) refl;
     }
       where
-        first : (x y : Bool) → (x && y) ≡ true → x ≡ true
-        first true y e = refl
-        first false y e = e
-
-        stays : (x : Bool) → x ≡ (x && true)
-        stays true = refl
-        stays false = refl
-
         gone : member left low ≡ false
         gone = less .members low ∙ rw (inside, eq-eqb low low refl) refl
 
@@ -91,7 +83,7 @@ module _ (table : List ℕ) (n : ℕ) (before : List ℕ) where
             subst (λ (r : ℕ). getD (set names at n) (placeAt r f i) 0 ≡ due (not (member left r)) r f i) x (rw gone (here f i b c))
         go r f i a b c false e =
             let x : r ≢ low = eqb-false r low e in
-            let same : member todo r ≡ member left r = stays (member todo r) ∙ sym (less .members r ∙ rw e refl) in
+            let same : member todo r ≡ member left r = sym (less .members r ∙ rw e (and-true (member todo r))) in
             getD-set-other names at (placeAt r f i) n 0 (λ z. x (omega (arith, z, b, c))) ∙ p .place r f i a b c ∙ ap (λ (h : Bool). due (not h) r f i) same
 
     pub placing-more : {f i : ℕ} → f ≡ fragmentIn cell → i ≡ indexIn cell → Placing left (set names (128 * low + 8 * f + i) n)
