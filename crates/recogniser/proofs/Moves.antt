@@ -2,7 +2,7 @@
 -- it to any two numbers. What a move asks follows: the four conditions and nothing else (`same-conditions`). Assumes nothing.
 use mathlib.Core.Path.{_≡_, refl, sym, ap, ap₂, _∙_}
 use mathlib.Core.Bool.{Bool, true, false}
-use Prim.Native.Nat.{ℕ, min}
+use Prim.Native.Nat.{ℕ, _<_, min}
 use native.Mathlib.Omega.{arith}
 use Rattle.names.specs.Names.{member}
 use Rattle.pattern.specs.Meaning.{Join, Range, mayBeLeftOut, shuffled}
@@ -17,12 +17,8 @@ module _ (j : Join) (r : Range) (count : ℕ) where
   abbrev rule : ℕ → ℕ → ℕ
   rule state class = stateNumber (move j r count (stateOf state) (classOf class))
 
-  -- and what the formula says, for an outcome of the conditions
-  abbrev said : Bool → Bool → Bool → Bool → ℕ → ℕ → ℕ
-  said a b c d state class = formula state class a b c d
-
-  -- the one test of all 24 entries
-  test : (a b c d : Bool) → hasRoom r count ≡ a → hasEnough r count ≡ b → mayBeLeftOut j ≡ c → shuffled j ≡ d → table 6 4 (said a b c d) ≡ table 6 4 rule
+  -- the one test of all 24 entries, for each outcome of the conditions
+  test : (a b c d : Bool) → hasRoom r count ≡ a → hasEnough r count ≡ b → mayBeLeftOut j ≡ c → shuffled j ≡ d → table 6 4 (formula a b c d) ≡ table 6 4 rule
   unfolding formula member
   test true true true true p q x y = rw (p, q, x, y)
   test true true true false p q x y = rw (p, q, x, y)
@@ -43,26 +39,26 @@ module _ (j : Join) (r : Range) (count : ℕ) where
 
   -- the formula of the four conditions
   abbrev by : ℕ → ℕ → ℕ
-  by = said (hasRoom r count) (hasEnough r count) (mayBeLeftOut j) (shuffled j)
-
-  -- for any two numbers: one past the last that is in use stands for the last
-  pub formula-is : (state class : ℕ) → by (min state 5) (min class 3) ≡ rule state class
-  formula-is state class =
-      at 6 4 by rule (test _ _ _ _ refl refl refl refl) (min state 5) (min class 3) (omega arith) (omega arith)
-      ∙ ap₂ (λ (s : State) (c : Class). stateNumber (move j r count s c))
-      (ap stateOf (sym (state-number state)) ∙ state-back (stateOf state))
-      (ap classOf (sym (class-number class)) ∙ class-back (classOf class))
+  by = formula (hasRoom r count) (hasEnough r count) (mayBeLeftOut j) (shuffled j)
 
   -- of a state and a class, by their numbers
-  move-number : (s : State) (c : Class) → by (min (stateNumber s) 5) (min (classNumber c) 3) ≡ stateNumber (move j r count s c)
-  move-number s c = formula-is (stateNumber s) (classNumber c) ∙ ap₂ (λ (x : State) (y : Class). stateNumber (move j r count x y)) (state-back s) (class-back c)
+  move-is : (s : State) (c : Class) → by (stateNumber s) (classNumber c) ≡ stateNumber (move j r count s c)
+  move-is s c =
+      let row : stateNumber s < 6 = omega (arith, ap stateNumber (state-back s), state-number (stateNumber s)) in
+      let column : classNumber c < 4 = omega (arith, ap classNumber (class-back c), class-number (classNumber c)) in
+      at 6 4 by rule (test _ _ _ _ refl refl refl refl) (stateNumber s) (classNumber c) row column
+      ∙ ap₂ (λ (x : State) (y : Class). stateNumber (move j r count x y)) (state-back s) (class-back c)
+
+  -- of any two numbers: one past the last that is in use stands for the last
+  pub formula-is : (state class : ℕ) → by (min state 5) (min class 3) ≡ rule state class
+  formula-is state class = ap₂ by (sym (state-number state)) (sym (class-number class)) ∙ move-is (stateOf state) (classOf class)
 
 -- a move asks the four conditions and nothing else
 pub same-conditions : (j k : Join) (r q : Range) (n m : ℕ) → hasRoom r n ≡ hasRoom q m → hasEnough r n ≡ hasEnough q m → mayBeLeftOut j ≡ mayBeLeftOut k → shuffled j ≡ shuffled k
     → (s : State) (c : Class) → move j r n s c ≡ move k q m s c
 same-conditions j k r q n m room enough optional mixed s c =
-    let same : by j r n (min (stateNumber s) 5) (min (classNumber c) 3) ≡ by k q m (min (stateNumber s) 5) (min (classNumber c) 3) = rw (room, enough, optional, mixed) in
-    sym (state-back (move j r n s c)) ∙ ap stateOf (sym (move-number j r n s c) ∙ same ∙ move-number k q m s c) ∙ state-back (move k q m s c)
+    let same : by j r n (stateNumber s) (classNumber c) ≡ by k q m (stateNumber s) (classNumber c) = rw (room, enough, optional, mixed) in
+    sym (state-back (move j r n s c)) ∙ ap stateOf (sym (move-is j r n s c) ∙ same ∙ move-is k q m s c) ∙ state-back (move k q m s c)
 
 -- the move in numbers is the move of any range with these bounds: its name has no part in a move
 pub next-state : (j : Join) (r : Range) (count : ℕ) (s : State) (c : Class)

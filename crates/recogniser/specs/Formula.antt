@@ -28,6 +28,6 @@ abbrev pub leadsTo : (state class : ℕ) (shuffled : Bool) → ℕ
 leadsTo state class shuffled = cond (eqb class 0) 3 (cond (eqb class 1) (cond (eqb state 1) 2 (cond (eqb state 3 && not shuffled) 4 state)) 0)
 
 -- idle stays, and a state that does not take the event is an error. A set has eight digits, so that of a state's number the lowest three are asked for
-unfoldable pub formula : (state class : ℕ) (room enough optional shuffled : Bool) → ℕ
-formula state class room enough optional shuffled =
+unfoldable pub formula : (room enough optional shuffled : Bool) (state class : ℕ) → ℕ
+formula room enough optional shuffled state class =
     cond (eqb state 0) 0 (cond (member (takersOf class room enough optional shuffled) (state % 8)) (leadsTo state class shuffled) 5)

@@ -119,8 +119,8 @@ fn leads_to(state: u8, class: u8, shuffled: bool) -> u8
 }
 
 // Idle stays, and a state that does not take the event is an error.
-fn formula(state: u8, class: u8, room: bool, enough: bool, optional: bool, shuffled: bool) -> u8
-    ensures { λ r. ⌜ r ≡ formula state class room enough optional shuffled ⌝ }
+fn formula(room: bool, enough: bool, optional: bool, shuffled: bool, state: u8, class: u8) -> u8
+    ensures { λ r. ⌜ r ≡ formula room enough optional shuffled state class ⌝ }
 {
     let taken = masks::holds(takers(class, room, enough, optional, shuffled), state);
     let to = select(taken, leads_to(state, class, shuffled), ERROR);
@@ -132,12 +132,12 @@ pub fn next_state(state: u8, class: u8, join: u8, count: u16, u: u16, v: u16) ->
     ensures { λ r. ⌜ r ≡ nextState state class join count u v ⌝ }
 {
     formula(
-        at_most(state, ERROR),
-        at_most(class, OTHER),
         has_room(count, v),
         has_enough(count, u),
         may_be_left_out(join),
         is_shuffled(join),
+        at_most(state, ERROR),
+        at_most(class, OTHER),
     )
 }
 
