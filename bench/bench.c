@@ -1,6 +1,6 @@
-/* Measures the guards on the configurations of configurations.py. Prints lines of fields with tabs between them, which table.py puts into tables.
- *   bench facts     each configuration: part, title, and the numbers that go with it
- *   bench time      nanoseconds per record, by log and live, and per sheet written back
+/* Measures the guards on the configurations of configurations.py, and on the rounds that it has to be played. Prints lines of fields with tabs between them, which table.py puts into tables.
+ *   bench facts     each configuration: part, title, and the numbers that go with it; then each round: 'play', title, and the number of its records
+ *   bench time      what was done, and nanoseconds: per record, by log and live, per sheet written back, and per round played
  *   bench count     under callgrind: one dump of counts for each measurement, whose label says what was done */
 #include "contestants.h"
 
@@ -23,9 +23,20 @@ typedef struct configuration {
     int rules, tables_bits;
 } configuration;
 
+typedef struct round_played {
+    const char *title;
+    const uint8_t *sheet;
+    size_t sheet_length;
+    uint32_t rule;
+    const uint8_t *choice;
+    size_t choice_length;
+} round_played;
+
 #include "configurations.h" /* made by configurations.py */
 
-enum { CONFIGURATIONS = sizeof configurations / sizeof *configurations, TIMED_RECORDS = 20000, TIMED_WRITES = 400, REPETITIONS = 25, COUNTED_RECORDS = 600 };
+/* A round's number follows those of the configurations. */
+enum { CONFIGURATIONS = sizeof configurations / sizeof *configurations, ROUNDS = sizeof rounds / sizeof *rounds };
+enum { TIMED_RECORDS = 20000, TIMED_WRITES = 400, REPETITIONS = 25, COUNTED_RECORDS = 600, ROUND_RECORDS = 20000 };
 
 /* ---- logs */
 
@@ -96,6 +107,12 @@ static unsigned told(uint64_t word) { return (uint8_t)word; }
         return id##_write(&l->id##_book, buffer, length);                \
     }
 
+#define PLAYED(id)                                                                                                   \
+    static int64_t id##_played(const lent *l, const round_played *p, uint8_t *out, size_t length)                    \
+    {                                                                                                                \
+        return id##_play(&l->id##_book, p->rule, 1, p->choice, p->choice_length, out, length);                       \
+    }
+
 SESSION(guard, guard_told)
 SESSION(hand, told)
 SESSION(hand_rs, told)
@@ -109,6 +126,10 @@ WRITTEN(guard)
 WRITTEN(hand)
 WRITTEN(hand_rs)
 WRITTEN(cells)
+PLAYED(guard)
+PLAYED(hand)
+PLAYED(hand_rs)
+PLAYED(cells)
 
 static uint32_t none_run(const uint8_t *sheet, size_t sheet_length, const uint8_t *log, size_t log_length, uint32_t budget, uint8_t *out, size_t out_length)
 {
@@ -131,24 +152,32 @@ static int64_t none_written(const lent *l, uint8_t *buffer, size_t length)
     return 0;
 }
 
+/* It plays a round of no records. */
+static int64_t none_played(const lent *l, const round_played *p, uint8_t *out, size_t length)
+{
+    (void)l, (void)p, (void)out, (void)length;
+    return 0;
+}
+
 typedef struct contestant {
     const char *name;
     uint32_t (*run)(const uint8_t *, size_t, const uint8_t *, size_t, uint32_t, uint8_t *, size_t);
     unsigned (*open)(lent *, const uint8_t *, size_t);
     size_t (*session)(lent *, const record *, size_t);
     int64_t (*write)(const lent *, uint8_t *, size_t);
+    int64_t (*play)(const lent *, const round_played *, uint8_t *, size_t);
 } contestant;
 
-#define CONTESTANT(id) {#id, id##_run, id##_opened, id##_session, id##_written}
+#define CONTESTANT(id) {#id, id##_run, id##_opened, id##_session, id##_written, id##_played}
 static const contestant contestants[] = {CONTESTANT(guard), CONTESTANT(hand), CONTESTANT(hand_rs), CONTESTANT(cells), CONTESTANT(none)};
 enum { CONTESTANTS = sizeof contestants / sizeof *contestants };
 static lent memory;
 
-static void must(bool right, const contestant *by, const configuration *c)
+static void must(bool right, const contestant *by, const char *title)
 {
     if (right)
         return;
-    fprintf(stderr, "%s does not take the log of: %s\n", by->name, c->title);
+    fprintf(stderr, "%s does not do what is due at: %s\n", by->name, title);
     exit(1);
 }
 
@@ -156,25 +185,43 @@ static void run_log(const contestant *by, const configuration *c, log_of log)
 {
     uint8_t out[12];
     uint32_t taken;
-    must(by->run(c->sheet, c->sheet_length, log.bytes, 5 * log.count, UINT32_MAX, out, sizeof out) == 0, by, c);
+    must(by->run(c->sheet, c->sheet_length, log.bytes, 5 * log.count, UINT32_MAX, out, sizeof out) == 0, by, c->title);
     memcpy(&taken, out + 4, 4);
-    must(out[0] <= GUARD_OPEN && taken == log.count, by, c);
+    must(out[0] <= GUARD_OPEN && taken == log.count, by, c->title);
 }
 
 static void open_session(const contestant *by, const configuration *c)
 {
-    must(by->open(&memory, c->sheet, c->sheet_length) == GUARD_WHOLE, by, c);
+    must(by->open(&memory, c->sheet, c->sheet_length) == GUARD_WHOLE, by, c->title);
 }
 
 static void live(const contestant *by, const configuration *c, const record *records, size_t count)
 {
-    must(by->session(&memory, records, count) == count, by, c);
+    must(by->session(&memory, records, count) == count, by, c->title);
 }
 
 static void write_back(const contestant *by, const configuration *c)
 {
     static uint8_t buffer[GUARD_SHEET_BYTES];
-    must(by->write(&memory, buffer, sizeof buffer) == (by->write == none_written ? 0 : (int64_t)c->sheet_length), by, c);
+    must(by->write(&memory, buffer, sizeof buffer) == (by->write == none_written ? 0 : (int64_t)c->sheet_length), by, c->title);
+}
+
+/* A round is played into memory that is lent once, by a book that was opened before. */
+static void play(const contestant *by, const round_played *p, int64_t records)
+{
+    static uint8_t out[5 * ROUND_RECORDS];
+    must(by->play(&memory, p, out, sizeof out) == (by->play == none_played ? 0 : records), by, p->title);
+}
+
+/* Opens the round's sheet for every contestant, and answers the number of the round's records: the guard's, of which each contestant says the same at each call. */
+static int64_t open_round(const round_played *p)
+{
+    static uint8_t out[5 * ROUND_RECORDS];
+    for (unsigned k = 0; k < CONTESTANTS; k++)
+        must(contestants[k].open(&memory, p->sheet, p->sheet_length) == GUARD_WHOLE, &contestants[k], p->title);
+    int64_t records = contestants[0].play(&memory, p, out, sizeof out);
+    must(records > 0, &contestants[0], p->title);
+    return records;
 }
 
 /* ---- time */
@@ -208,9 +255,30 @@ static void time_configuration(unsigned number)
                 if (r == 0 || spent[m] < least[k][m])
                     least[k][m] = spent[m];
         }
+    static const char *const ways[3] = {"run", "live", "write"};
     for (unsigned k = 0; k < CONTESTANTS; k++)
-        printf("%u\t%s\t%.2f\t%.2f\t%.2f\n", number, contestants[k].name, least[k][0], least[k][1], least[k][2]);
+        for (unsigned m = 0; m < 3; m++)
+            printf("%u\t%s\t%s\t%.2f\n", number, contestants[k].name, ways[m], least[k][m]);
     drop_log(log);
+}
+
+static void time_round(unsigned number)
+{
+    const round_played *p = &rounds[number];
+    int64_t records = open_round(p);
+    unsigned times = 1 + (unsigned)(TIMED_RECORDS / records);
+    double least[CONTESTANTS];
+    for (unsigned r = 0; r < REPETITIONS; r++)
+        for (unsigned k = 0; k < CONTESTANTS; k++) {
+            double start = now();
+            for (unsigned i = 0; i < times; i++)
+                play(&contestants[k], p, records);
+            double spent = (now() - start) / times;
+            if (r == 0 || spent < least[k])
+                least[k] = spent;
+        }
+    for (unsigned k = 0; k < CONTESTANTS; k++)
+        printf("%u\t%s\tplay\t%.2f\n", CONFIGURATIONS + number, contestants[k].name, least[k]);
 }
 
 /* ---- counts */
@@ -272,6 +340,22 @@ static void count_configuration(unsigned number)
     }
 }
 
+static void count_round(unsigned number)
+{
+    char label[128];
+    int64_t records = open_round(&rounds[number]);
+    for (unsigned k = 0; k < CONTESTANTS; k++) {
+        count_from_here(label, &contestants[k], CONFIGURATIONS + number, "play", (size_t)records);
+        play(&contestants[k], &rounds[number], records);
+        CALLGRIND_DUMP_STATS_AT(label);
+    }
+}
+
+static void facts_of_round(unsigned number)
+{
+    printf("%u\tplay\t%s\t%lld\n", CONFIGURATIONS + number, rounds[number].title, (long long)open_round(&rounds[number]));
+}
+
 static void facts(unsigned number)
 {
     const configuration *c = &configurations[number];
@@ -282,12 +366,14 @@ int main(int argc, char **argv)
 {
     static const struct {
         const char *word;
-        void (*act)(unsigned);
-    } words[] = {{"facts", facts}, {"time", time_configuration}, {"count", count_configuration}};
+        void (*act)(unsigned), (*play)(unsigned);
+    } words[] = {{"facts", facts, facts_of_round}, {"time", time_configuration, time_round}, {"count", count_configuration, count_round}};
     for (unsigned w = 0; argc == 2 && w < 3; w++)
         if (strcmp(argv[1], words[w].word) == 0) {
             for (unsigned i = 0; i < CONFIGURATIONS; i++)
                 words[w].act(i);
+            for (unsigned i = 0; i < ROUNDS; i++)
+                words[w].play(i);
             return 0;
         }
     fprintf(stderr, "usage: bench facts|time|count\n");

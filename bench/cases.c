@@ -1,5 +1,6 @@
-/* Holds a guard to the stored cases of crates/vectors: its run of each log, a live session over the same records, and each accepted sheet written back. The format of the file is at the top of reference/make.py. And to two
- * logs that no file has: more events on one name than sixteen bits count. */
+/* Holds a guard to the stored cases of crates/vectors: its run of each log, a live session over the same records, and each accepted sheet written back. The format of the file is at the top of
+ * reference/make.py. And to what no file has: two logs with more events on one name than sixteen bits count, and a round of each rule of each accepted sheet, which the rule takes whole and in which
+ * all guards agree. */
 #include "contestants.h"
 
 #include <stdio.h>
@@ -15,6 +16,7 @@ typedef struct contestant {
     uint64_t (*verdict)(const lent *);
     uint32_t (*taken)(const lent *);
     int64_t (*write)(const lent *, uint8_t *, size_t);
+    int64_t (*play)(const lent *, uint32_t, uint32_t, const uint8_t *, size_t, uint8_t *, size_t);
 } contestant;
 
 static uint64_t word(guard_answer a)
@@ -34,9 +36,13 @@ static uint64_t itself(uint64_t word)
     static uint64_t id##_reads(lent *l, uint32_t time) { return as(id##_clock(&l->id##_book, &l->id##_monitor, time)); }                      \
     static uint64_t id##_says(const lent *l) { return as(id##_verdict(&l->id##_monitor)); }                                                   \
     static uint32_t id##_took(const lent *l) { return id##_taken(&l->id##_monitor); }                                                         \
-    static int64_t id##_stores(const lent *l, uint8_t *b, size_t n) { return id##_write(&l->id##_book, b, n); }
+    static int64_t id##_stores(const lent *l, uint8_t *b, size_t n) { return id##_write(&l->id##_book, b, n); }                               \
+    static int64_t id##_plays(const lent *l, uint32_t rule, uint32_t time, const uint8_t *choice, size_t length, uint8_t *out, size_t n)      \
+    {                                                                                                                                         \
+        return id##_play(&l->id##_book, rule, time, choice, length, out, n);                                                                  \
+    }
 
-#define CONTESTANT(id) {#id, id##_run, id##_opens, id##_sees, id##_reads, id##_says, id##_took, id##_stores}
+#define CONTESTANT(id) {#id, id##_run, id##_opens, id##_sees, id##_reads, id##_says, id##_took, id##_stores, id##_plays}
 
 CALLS(guard, word)
 CALLS(hand, itself)
@@ -122,6 +128,40 @@ static int writes_back(const contestant *c, const lent *l, const test *t)
     return c->write(l, buffer, sizeof buffer) == (int64_t)n && memcmp(buffer, t->sheet, n) == 0 && memcmp(buffer + n, before + n, sizeof buffer - n) == 0;
 }
 
+/* A round of a rule, picked by the bytes of the case's log: the guard's own answer and records, into an output that they fill, and 18 and nothing written where one byte is missing. By the rule's
+ * sheet the rule is then neither open nor broken. "17, no such rule". */
+static int plays(const contestant *c, const lent *l, const test *t, uint32_t rule)
+{
+    enum { ROOM = 5 * 300 };
+    uint8_t out[ROOM], due[ROOM], before[ROOM], said[12];
+    memset(before, 0xA5, ROOM), memset(out, 0xA5, ROOM), memset(due, 0xA5, ROOM);
+    uint32_t time = 0x01020304 * rule;
+    int64_t records = contestants[0].play(l, rule, time, t->log, t->log_length, due, ROOM);
+    if (c->play(l, rule, time, t->log, t->log_length, out, ROOM) != records || memcmp(out, due, ROOM) != 0)
+        return 0;
+    if (rule >= t->sheet[13])
+        return records == -17 && c->play(l, rule, time, t->log, t->log_length, out, 0) == -17;
+    if (records < 0)
+        return records == -18 && memcmp(out, before, ROOM) == 0;
+    size_t length = 5 * (size_t)records;
+    memset(out, 0xA5, ROOM);
+    if (c->play(l, rule, time, t->log, t->log_length, out, length - 1) != -18 || memcmp(out, before, ROOM) != 0)
+        return 0;
+    if (c->play(l, rule, time, t->log, t->log_length, out, length) != records || memcmp(out, due, ROOM) != 0)
+        return 0;
+    return c->run(t->sheet, t->sheet_length, out, length, UINT32_MAX, said, 12) == 0 && said[0] != GUARD_REFUSED && !(number(said + 2, 2) >> rule & 1);
+}
+
+/* Every rule of the case's sheet, and the numbers after it. */
+static int plays_all(const contestant *c, lent *l, const test *t)
+{
+    contestants[0].open(l, t->sheet, t->sheet_length);
+    for (uint32_t rule = 0; rule < 18; rule++)
+        if (!plays(c, l, t, rule))
+            return 0;
+    return plays(c, l, t, UINT32_MAX);
+}
+
 static int agrees(const contestant *c, lent *l, const test *t)
 {
     uint8_t out[16], live[12];
@@ -179,18 +219,20 @@ int main(int argc, char **argv)
     uint32_t count = number(cases, 4);
     for (size_t c = 0; c < sizeof contestants / sizeof *contestants; c++) {
         const uint8_t *p = cases + 8;
-        uint32_t right = 0, sheets = 0, written = 0;
+        uint32_t right = 0, sheets = 0, written = 0, played = 0;
         for (uint32_t i = 0; i < count; i++) {
             test t;
             p = next_case(p, &t);
-            int stored = agrees(&contestants[c], &l, &t), back = accepted(&t) && writes_back(&contestants[c], &l, &t);
-            right += (uint32_t)stored, sheets += (uint32_t)accepted(&t), written += (uint32_t)back;
-            if ((!stored || back != accepted(&t)) && !failed++)
+            int stored = agrees(&contestants[c], &l, &t), sheet = accepted(&t);
+            int back = sheet && writes_back(&contestants[c], &l, &t), rounds = sheet && plays_all(&contestants[c], &l, &t);
+            right += (uint32_t)stored, sheets += (uint32_t)sheet, written += (uint32_t)back, played += (uint32_t)rounds;
+            if ((!stored || back != sheet || rounds != sheet) && !failed++)
                 fprintf(stderr, "%s: first at case %u\n", contestants[c].name, i);
         }
         int both = agrees_long(&contestants[c], &l, 0) && agrees_long(&contestants[c], &l, UINT16_MAX);
         failed += !both;
-        printf("%s: %u of %u cases as due, %u of %u sheets written back, and more than 65,536 events on one name %s\n", contestants[c].name, right, count, written, sheets, both ? "too" : "NOT");
+        printf("%s: %u of %u cases as due, %u of %u sheets written back and %u played, and more than 65,536 events on one name %s\n", contestants[c].name, right, count, written, sheets, played,
+               both ? "too" : "NOT");
     }
     return failed != 0;
 }

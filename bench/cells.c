@@ -1,5 +1,5 @@
-/* The guard of document 01 by hand with cells and masks, with the shuffled fragments of document 02, its ranges without an upper end and its sheet writer: the sheet's reader, a rule's step,
- * observing, running a log and writing a sheet back. Words in quotes are document 01's. */
+/* The guard of document 01 by hand with cells and masks, with the shuffled fragments of document 02, its ranges without an upper end, its sheet writer and its player: the sheet's reader, a rule's
+ * step, observing, running a log, writing a sheet back and playing a round. Words in quotes are document 01's. */
 #include "cells.h"
 
 #include <stdbool.h>
@@ -188,7 +188,7 @@ static bool read_requirement(reader *r, reading *rule)
     rule->in_round = rule->in_p + 1;
     rule->limit = 0;
     rule->trigger = trigger;
-    cells_cell c = {.fragment = rule->in_p, .before = (uint8_t)(rule->in_p - 1), .flags = rule->kind == ONCE ? RELEASES : 0};
+    cells_cell c = {.fragment = rule->in_p, .before = (uint8_t)(rule->in_p - 1), .flags = rule->kind == ONCE ? RELEASES : 0, .count = 1};
     put_cell(rule, c, false, 1, 0, trigger, 1, 1);
     return true;
 }
@@ -535,4 +535,85 @@ int64_t cells_write(const cells_book *book, uint8_t *buffer, size_t length)
             out = append_fragment(out, book->cells[r], p.names[r][f]);
     }
     return (int64_t)size;
+}
+
+/* ---- playing a round, as docs/PLAYING.md has it */
+
+/* One fragment: how often each name has come, and as masks of the ranges those that have come, those that have their u, those that take no more, and the one that came last. */
+typedef struct filling {
+    size_t counts[CELLS_RANGES];
+    unsigned begun, enough, full, last;
+} filling;
+
+static inline bool may_come(const filling *s, unsigned bit, bool shuffled)
+{
+    if (shuffled || s->last == bit)
+        return !(s->full & bit);
+    return !(s->begun & bit) && !(s->last & ~s->enough);
+}
+
+/* The range that is needed, or -1 if the fragment may be left. */
+static inline int needed(const filling *s, unsigned every, bool any)
+{
+    unsigned lacking = every & ~s->enough, open = lacking & s->begun;
+    if (open != 0)
+        return __builtin_ctz(open);
+    return lacking == 0 || (any && s->begun != 0) ? -1 : __builtin_ctz(lacking);
+}
+
+static inline void comes(filling *s, unsigned i, const cells_cell *c)
+{
+    size_t count = ++s->counts[i];
+    s->begun |= c->bit;
+    s->enough |= count >= c->u ? c->bit : 0;
+    s->full |= count == c->v ? c->bit : 0; /* a count is never 0 here */
+    s->last = c->bit;
+}
+
+/* The names of one rule by their places. */
+typedef uint8_t round_names[16][CELLS_RANGES];
+
+/* A pass over the round: the number of its records, or -18. They are written if there is an output. */
+static int64_t pass_round(const cells_cell *cells, round_names names, unsigned fragments, uint32_t time, const uint8_t *choice, size_t choice_length, uint8_t *out, size_t room)
+{
+    size_t records = 0, at = 0;
+    for (unsigned f = 0; f < fragments; f++) {
+        const cells_cell *first = &cells[names[f][0]];
+        unsigned count = first->count, every = (1u << count) - 1;
+        bool any = first->join & ANY, shuffled = first->join & MIXED;
+        filling s = {.last = 0};
+        for (;; records++) {
+            unsigned byte = at < choice_length ? choice[at] : 0;
+            int i = (int)(byte % (count + 1)) - 1;
+            at++;
+            if (i < 0 || !may_come(&s, 1u << i, shuffled))
+                i = needed(&s, every, any);
+            if (i < 0)
+                break;
+            if (records == room)
+                return -18;
+            comes(&s, (unsigned)i, &cells[names[f][i]]);
+            if (out != NULL) {
+                out = append(out, names[f][i], 1);
+                out = append(out, time, 4);
+            }
+        }
+    }
+    return (int64_t)records;
+}
+
+int64_t cells_play(const cells_book *book, uint32_t rule, uint32_t time, const uint8_t *choice, size_t choice_length, uint8_t *out, size_t out_length)
+{
+    if (rule >= book->count)
+        return -17;
+    const cells_cell *cells = book->cells[rule];
+    round_names names;
+    for (unsigned name = 0; name < CELLS_NAMES; name++)
+        if (book->holders[name] >> rule & 1)
+            names[cells[name].fragment][cells[name].range] = (uint8_t)name;
+    unsigned fragments = book->last[rule] + 1u;
+    int64_t records = pass_round(cells, names, fragments, time, choice, choice_length, NULL, out_length / 5);
+    if (records >= 0)
+        pass_round(cells, names, fragments, time, choice, choice_length, out, out_length / 5);
+    return records;
 }

@@ -18,7 +18,7 @@ typedef struct cells_cell {
     uint8_t flags;
     uint8_t lacking, full; /* what the two masks are if this event begins the fragment */
     uint8_t standing[3];   /* of the rule after this event: the fragment lacks something; it may be followed; it may, and takes no more */
-    uint8_t join, count;   /* of the fragment, as the sheet has them */
+    uint8_t join, count;   /* of the fragment, as the sheet has them, and of a trigger all of one */
 } cells_cell;
 
 typedef struct cells_book {
@@ -63,5 +63,8 @@ uint32_t cells_taken(const cells_monitor *m);
 
 /* The sheet's own bytes: their number, or -16 and nothing is written, as guard_write. */
 int64_t cells_write(const cells_book *book, uint8_t *buffer, size_t length);
+
+/* A round of a rule: the number of its records, or -17 or -18 and nothing is written, as guard_play. */
+int64_t cells_play(const cells_book *book, uint32_t rule, uint32_t time, const uint8_t *choice, size_t choice_length, uint8_t *out, size_t out_length);
 
 #endif

@@ -2,9 +2,12 @@
 
 Each has a sheet, names that open the log once, and the names of one round, which follow again and again. Record i has
 the time i. A log never breaks a rule, so that no record is looked at by a stopped book.
+
+A round that is played has a sheet, a rule's number and choice bytes (docs/PLAYING.md).
 """
 
 import os
+import random
 import sys
 from collections import namedtuple
 
@@ -208,6 +211,35 @@ def quiet():
 
 
 # ---------------------------------------------------------------------------------------------
+# Rounds that are played: by no bytes, by random ones, the same in each run, and by many
+# ---------------------------------------------------------------------------------------------
+
+Played = namedtuple('Played', 'title sheet rule choice')
+
+
+def some_bytes(count):
+    return random.Random(count).choices(range(256), k=count)
+
+
+def full():
+    """Every name in one rule: four fragments of eight ranges in P, and as many in Q."""
+    fragments = [Fragment(ALL, tuple(Range(8 * f + i, 1, 3) for i in range(8))) for f in range(8)]
+    return timed(fragments[:4], fragments[4:], 0)
+
+
+def played():
+    few, title = sheet(required()), '({a,b},∧) < c[2,4] ≪ d'
+    yield Played('1 rule: %s, no bytes' % title, few, 0, ())
+    yield Played('1 rule: %s, random bytes' % title, few, 0, some_bytes(12))
+    yield Played('the last of 16 such rules, disjoint names, no bytes', disjoint(required)[0], 15, ())
+    yield Played('1 rule: four fragments of {n1..n8}[1,3],∧ ⇒ four, no bytes', sheet(full()), 0, ())
+    yield Played('1 rule: four fragments of {n1..n8}[1,3],∧ ⇒ four, random bytes', sheet(full()), 0, some_bytes(400))
+    yield Played('1 rule: ({n1..n8}[2,4],∧,shuffled) ≪ i, random bytes', sheet(mixed(8)), 0, some_bytes(60))
+    yield Played('1 rule: n1 ⇒ n2[100,60000] < n3 < n4, no bytes', implies(one(1, 100, 60000), one(2), one(3))[0], 0, ())
+    yield Played('1 rule: n[2,∞] ≪ i, 10,000 events', sheet(endless(ALL, 1)), 0, [1] * 10000)
+
+
+# ---------------------------------------------------------------------------------------------
 
 def names_of(rule):
     return [r.name for f in rule.p + rule.q for r in f.ranges] + ([] if rule.kind == TIMED else [rule.trigger])
@@ -235,4 +267,8 @@ if __name__ == '__main__':
     for group in (general(), shuffled(), without_upper_end(), papers(), quiet()):
         for configuration in group:
             print(entry(configuration))
+    print('};\n')
+    print('static const round_played rounds[] = {')
+    for p in played():
+        print('    {"%s", %s, %d, %s},' % (p.title, array(written(p.sheet)[0]), p.rule, array(p.choice)))
     print('};')

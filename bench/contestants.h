@@ -24,6 +24,7 @@ uint64_t hand_rs_clock(const hand_rs_book *book, hand_rs_monitor *m, uint32_t ti
 uint64_t hand_rs_verdict(const hand_rs_monitor *m);
 uint32_t hand_rs_taken(const hand_rs_monitor *m);
 int64_t hand_rs_write(const hand_rs_book *book, uint8_t *buffer, size_t length);
+int64_t hand_rs_play(const hand_rs_book *book, uint32_t rule, uint32_t time, const uint8_t *choice, size_t choice_length, uint8_t *out, size_t out_length);
 
 /* bench/none.c: a guard that does nothing. */
 typedef struct none_book {

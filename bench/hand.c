@@ -1,5 +1,5 @@
-/* The guard of document 01 by hand, with the shuffled fragments of document 02, its ranges without an upper end and its sheet writer: the sheet's reader, the six-state recogniser, observing,
- * running a log and writing a sheet back. Words in quotes are document 01's. */
+/* The guard of document 01 by hand, with the shuffled fragments of document 02, its ranges without an upper end, its sheet writer and its player: the sheet's reader, the six-state recogniser,
+ * observing, running a log, writing a sheet back and playing a round. Words in quotes are document 01's. */
 #include "hand.h"
 
 #include <string.h>
@@ -553,4 +553,72 @@ int64_t hand_write(const hand_book *book, uint8_t *buffer, size_t length)
     for (unsigned k = 0; k < book->count; k++)
         out = append_rule(out, &book->rules[k]);
     return (int64_t)size;
+}
+
+/* ---- playing a round, as docs/PLAYING.md has it */
+
+/* How often each name of the fragment has come, and the range that came last, -1 at first. */
+typedef struct filling {
+    size_t counts[HAND_RANGES];
+    int last;
+} filling;
+
+static inline bool may_come(const hand_fragment *f, const filling *s, int i)
+{
+    const hand_range *range = &f->ranges[i];
+    if (f->shuffled || s->last == i)
+        return range->v == 0 || s->counts[i] < range->v;
+    return s->counts[i] == 0 && (s->last < 0 || s->counts[s->last] >= f->ranges[s->last].u);
+}
+
+/* The range that is needed, or -1 if the fragment may be left: a range that has begun comes first, and of the others none where some will do. */
+static inline int needed(const hand_fragment *f, const filling *s)
+{
+    int first = -1;
+    for (int i = 0; i < f->count; i++) {
+        if (s->counts[i] >= f->ranges[i].u)
+            continue;
+        if (s->counts[i] != 0)
+            return i;
+        first = first < 0 ? i : first;
+    }
+    return f->any && s->last >= 0 ? -1 : first;
+}
+
+/* A pass over the round: the number of its records, or -18. They are written if there is an output. */
+static int64_t pass_round(const hand_rule *rule, uint32_t time, const uint8_t *choice, size_t choice_length, uint8_t *out, size_t room)
+{
+    size_t records = 0, at = 0;
+    for (unsigned k = 0; k < rule->in_round; k++) {
+        const hand_fragment *f = &rule->fragments[k];
+        filling s = {.last = -1};
+        for (;; records++) {
+            unsigned byte = at < choice_length ? choice[at] : 0;
+            int i = (int)(byte % (f->count + 1u)) - 1;
+            at++;
+            if (i < 0 || !may_come(f, &s, i))
+                i = needed(f, &s);
+            if (i < 0)
+                break;
+            if (records == room)
+                return -18;
+            s.counts[i]++;
+            s.last = i;
+            if (out != NULL) {
+                out = append(out, f->ranges[i].name, 1);
+                out = append(out, time, 4);
+            }
+        }
+    }
+    return (int64_t)records;
+}
+
+int64_t hand_play(const hand_book *book, uint32_t rule, uint32_t time, const uint8_t *choice, size_t choice_length, uint8_t *out, size_t out_length)
+{
+    if (rule >= book->count)
+        return -17;
+    int64_t records = pass_round(&book->rules[rule], time, choice, choice_length, NULL, out_length / 5);
+    if (records >= 0)
+        pass_round(&book->rules[rule], time, choice, choice_length, out, out_length / 5);
+    return records;
 }

@@ -69,4 +69,7 @@ uint32_t hand_taken(const hand_monitor *m);
 /* The sheet's own bytes: their number, or -16 and nothing is written, as guard_write. */
 int64_t hand_write(const hand_book *book, uint8_t *buffer, size_t length);
 
+/* A round of a rule: the number of its records, or -17 or -18 and nothing is written, as guard_play. */
+int64_t hand_play(const hand_book *book, uint32_t rule, uint32_t time, const uint8_t *choice, size_t choice_length, uint8_t *out, size_t out_length);
+
 #endif

@@ -1,5 +1,5 @@
-//! The guard of document 01 by hand in Rust, with the shuffled fragments of document 02, its ranges without an upper end and its sheet writer: the same tables and masks as bench/hand.c. Words
-//! in quotes are document 01's.
+//! The guard of document 01 by hand in Rust, with the shuffled fragments of document 02, its ranges without an upper end, its sheet writer and its player: the same tables and masks as bench/hand.c.
+//! Words in quotes are document 01's.
 
 use std::mem::MaybeUninit;
 
@@ -618,6 +618,89 @@ impl Book {
     }
 }
 
+// ---- playing a round, as docs/PLAYING.md has it
+
+/// How often each name of the fragment has come, and the range that came last.
+struct Filling {
+    counts: [usize; RANGES],
+    last: Option<usize>,
+}
+
+impl Filling {
+    fn may_come(&self, fragment: &Fragment, i: usize) -> bool {
+        let Range { v, .. } = fragment.ranges[i];
+        match self.last {
+            _ if fragment.join.shuffled => v == 0 || self.counts[i] < usize::from(v),
+            Some(last) if last == i => v == 0 || self.counts[i] < usize::from(v),
+            Some(last) => self.counts[i] == 0 && self.counts[last] >= usize::from(fragment.ranges[last].u),
+            None => true,
+        }
+    }
+
+    /// The range that is needed, or none if the fragment may be left: a range that has begun comes first, and of the others none where some will do.
+    fn needed(&self, fragment: &Fragment) -> Option<usize> {
+        let mut first = None;
+        for (i, (range, &count)) in fragment.ranges().iter().zip(&self.counts).enumerate() {
+            if count >= usize::from(range.u) {
+                continue;
+            }
+            if count > 0 {
+                return Some(i);
+            }
+            first = first.or(Some(i));
+        }
+        first.filter(|_| !fragment.join.any || self.last.is_none())
+    }
+
+    /// One step: the range whose name comes, or none if the fragment is left.
+    fn step(&self, fragment: &Fragment, byte: u8) -> Option<usize> {
+        match usize::from(byte % (fragment.count + 1)) {
+            k if k > 0 && self.may_come(fragment, k - 1) => Some(k - 1),
+            _ => self.needed(fragment),
+        }
+    }
+}
+
+impl Rule {
+    /// The name of each record of the round, up to where `take` refuses one: whether all were taken.
+    fn round(&self, choice: &[u8], mut take: impl FnMut(u8) -> bool) -> bool {
+        let mut bytes = choice.iter().copied();
+        for fragment in &self.fragments[..usize::from(self.in_round)] {
+            let mut filling = Filling { counts: [0; RANGES], last: None };
+            while let Some(i) = filling.step(fragment, bytes.next().unwrap_or(0)) {
+                if !take(fragment.ranges[i].name) {
+                    return false;
+                }
+                filling.counts[i] += 1;
+                filling.last = Some(i);
+            }
+        }
+        true
+    }
+}
+
+impl Book {
+    /// The number of records, or the refusal 17 or 18.
+    fn play(&self, rule: u32, time: u32, choice: &[u8], out: &mut [u8]) -> Result<usize, u8> {
+        let rule = self.rules().get(rule as usize).ok_or(17)?;
+        let (room, mut count) = (out.len() / 5, 0);
+        if !rule.round(choice, |_| {
+            count += 1;
+            count <= room
+        }) {
+            return Err(18);
+        }
+        let mut records = out.chunks_exact_mut(5);
+        rule.round(choice, |name| {
+            let Some(record) = records.next() else { return false };
+            record[0] = name;
+            record[1..].copy_from_slice(&time.to_le_bytes());
+            true
+        });
+        Ok(count)
+    }
+}
+
 // ---- what C calls: answers as in bench/hand.h
 
 fn word(answer: u8, refusal: u8, mask: u16, place: u32) -> u64 {
@@ -686,15 +769,35 @@ pub extern "C" fn hand_rs_taken(m: &Monitor) -> u32 {
     m.taken
 }
 
+/// The same, to be written to.
+unsafe fn slice_mut<'a>(bytes: *mut u8, length: usize) -> &'a mut [u8] {
+    if length == 0 {
+        return &mut [];
+    }
+    unsafe { std::slice::from_raw_parts_mut(bytes, length) }
+}
+
+/// How many bytes or records were written, or minus a refusal's number.
+fn counted(written: Result<usize, u8>) -> i64 {
+    match written {
+        Ok(count) => count as i64,
+        Err(refusal) => -i64::from(refusal),
+    }
+}
+
 /// # Safety
 /// The buffer is valid for its length, and apart from the book.
 #[no_mangle]
 pub unsafe extern "C" fn hand_rs_write(book: &Book, buffer: *mut u8, length: usize) -> i64 {
-    let buffer = if length == 0 { &mut [] } else { unsafe { std::slice::from_raw_parts_mut(buffer, length) } };
-    match book.write(buffer) {
-        Ok(bytes) => bytes as i64,
-        Err(refusal) => -i64::from(refusal),
-    }
+    counted(book.write(unsafe { slice_mut(buffer, length) }))
+}
+
+/// # Safety
+/// Choice and output are valid for their lengths, and the output is apart from the choice and the book.
+#[no_mangle]
+pub unsafe extern "C" fn hand_rs_play(book: &Book, rule: u32, time: u32, choice: *const u8, choice_length: usize, out: *mut u8, out_length: usize) -> i64 {
+    let (choice, out) = unsafe { (slice(choice, choice_length), slice_mut(out, out_length)) };
+    counted(book.play(rule, time, choice, out))
 }
 
 // What the host lends (bench/contestants.h) is large enough.

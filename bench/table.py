@@ -21,10 +21,11 @@ LEVELS = (2, 3)
 RULE_BITS, SHARED_BITS = 256, 104
 
 Facts = namedtuple('Facts', 'number part title figure_ops figure_bits table_ops table_bits rules tables_bits')
+Round = namedtuple('Round', 'number title records')
 
 
 # ---------------------------------------------------------------------------------------------
-# What was measured: each a value by way ('run', 'live' and 'write'), guard and configuration
+# What was measured: each a value by way ('run', 'live', 'write' and 'play'), guard and configuration or round
 # ---------------------------------------------------------------------------------------------
 
 def lines(path):
@@ -33,16 +34,22 @@ def lines(path):
 
 
 def read_facts(folder):
-    return [Facts(int(n), part, title, *map(int, rest)) for n, part, title, *rest in lines(os.path.join(folder, 'facts'))]
+    """The configurations and the rounds."""
+    facts, rounds = [], []
+    for number, part, title, *rest in lines(os.path.join(folder, 'facts')):
+        if part == 'play':
+            rounds.append(Round(int(number), title, int(rest[0])))
+        else:
+            facts.append(Facts(int(number), part, title, *map(int, rest)))
+    return facts, rounds
 
 
 def read_times(path):
-    """Nanoseconds per record, or per sheet written: the least of the runs."""
+    """Nanoseconds per record, per sheet written or per round played: the least of the runs."""
     times = {}
-    for number, guard, *spent in lines(path):
-        for way, ns in zip(('run', 'live', 'write'), spent):
-            key = way, guard, int(number)
-            times[key] = min(float(ns), times.get(key, math.inf))
+    for number, guard, way, ns in lines(path):
+        key = way, guard, int(number)
+        times[key] = min(float(ns), times.get(key, math.inf))
     return times
 
 
@@ -70,13 +77,14 @@ def read_operations(dumps, code, callers):
 
 
 def means(counts):
-    """Instructions per record: the difference of two lengths; for a session less that of the call that does nothing. Of a sheet written back, which is counted twice, all of them."""
+    """Instructions per record: the difference of two lengths; for a session less that of the call that does nothing. Of a sheet written back, which is counted twice, and of a
+    round all of them."""
     out = {}
     for key, of in counts.items():
         if key[0] in ('run', 'live'):
             (short, low), (long, high) = sorted(of.items())
             out[key] = (high - low) / (long - short)
-        elif key[0] == 'write':
+        elif key[0] in ('write', 'play'):
             out[key] = min(of.values())
     for way, guard, number in out:
         if way == 'live' and guard != 'none':
@@ -100,7 +108,7 @@ def most_operations(ops, guard, number):
 
 def typical(times, guard):
     """One number for all times of a guard, those of records: the mean of their logarithms, back in nanoseconds."""
-    logs = [math.log(ns) for (way, g, _), ns in times.items() if g == guard and way != 'write']
+    logs = [math.log(ns) for (way, g, _), ns in times.items() if g == guard and way in ('run', 'live')]
     return math.exp(sum(logs) / len(logs))
 
 
@@ -136,6 +144,11 @@ def print_way(way, title, facts, times, mean):
     head = ['%s %s' % (h, unit) for unit in ('ns', 'instr.') for h in (*GUARDS.values(), 'guard/C', 'guard/Rust')]
     rows = [[f.title] + figures(times, way, f.number) + figures(mean, way, f.number) + figures_of_cells(times, mean, way, f.number) for f in facts]
     table(['configuration'] + head + ['cells ns', 'cells instr.', 'guard/cells instr.'], rows)
+
+
+def print_rounds(rounds, times, mean):
+    named = [r._replace(title='%s: %d record%s' % (r.title, r.records, 's' * (r.records > 1))) for r in rounds]
+    print_way('play', 'Playing a round, per round', named, times, mean)
 
 
 def different(facts, mean):
@@ -185,11 +198,12 @@ def largest(facts, values, guard, ways=('run', 'live')):
     return '%.2f (%s, %s)' % (ratio, way, f.title)
 
 
-def print_reach(facts, times, mean, ops):
+def print_reach(facts, rounds, times, mean, ops):
     """The two goals: guard/C at most 1.2, and no record above a paper's operations. Beside them the C with cells, of which no goal is set."""
     print('- Largest guard/C in nanoseconds: %s.' % largest(facts, times, 'hand'))
     print('- Largest guard/C in instructions: %s.' % largest(facts, mean, 'hand'))
     print('- Largest guard/C of a sheet written back: in nanoseconds %s, in instructions %s.' % tuple(largest(different(facts, mean), values, 'hand', ('write',)) for values in (times, mean)))
+    print('- Largest guard/C of a round played: in nanoseconds %s, in instructions %s.' % tuple(largest(rounds, values, 'hand', ('play',)) for values in (times, mean)))
     print('- Largest guard/cells: in instructions %s, in nanoseconds %s.' % (largest(facts, mean, 'cells'), largest(facts, times, 'cells')))
     for which, what in ((1, 'the rule itself'), (0, 'the whole call')):
         above = [f.title for f in facts if f.part == 'paper'
@@ -198,7 +212,7 @@ def print_reach(facts, times, mean, ops):
 
 
 def main(folder):
-    facts = read_facts(folder)
+    facts, rounds = read_facts(folder)
     times = {level: read_times(os.path.join(folder, 'time%d' % level)) for level in LEVELS}
     level, cells_level = (min(LEVELS, key=lambda n: typical(times[n], guard)) for guard in ('hand', 'cells'))
     dumps = {n: read_dumps(os.path.join(folder, 'counts%d.*' % n)) for n in LEVELS}
@@ -211,7 +225,8 @@ def main(folder):
     print_papers(facts, counts, ops)
     print_opening(facts, counts)
     print_way('write', 'Writing a book back, per sheet', different(facts, mean), fastest, mean)
-    print_reach(facts, fastest, mean, ops)
+    print_rounds(rounds, fastest, mean)
+    print_reach(facts, rounds, fastest, mean, ops)
     print('- The host\'s loop with a call that does nothing: %.1f ns and %.1f instructions per record.'
           % (fastest['live', 'none', 0], mean['live', 'none', 0]))
     for guard, at in (('hand', level), ('cells', cells_level)):

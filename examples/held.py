@@ -1,5 +1,5 @@
 """What the checks of examples/styles and examples/progress share: an example of two sheets, the second the version 1 that would not do, and a live host. Of this, examples/review takes
-what goes by log.
+what goes by log, and examples/play the sheets.
 
 1. The reference gives the verdict of every 'due' line of the text, and README.md has the row of every log.
 2. So does the program, where one is given: GUARD_PROGRAM is a path to it.
@@ -36,6 +36,14 @@ def text_of(example):
 def file_text(example, file):
     with open(path_of(example, file)) as f:
         return f.read()
+
+
+def all_sheets():
+    """(name, bytes) of the sheets of every example."""
+    for folder in ('intercom', 'styles', 'progress', 'review'):
+        for file in sorted(os.listdir(os.path.join(HERE, folder))):
+            if file.endswith('.txt'):
+                yield from ((name[:-4], data) for name, data in make.everything([os.path.join(HERE, folder, file)]).items() if name.endswith('.lob'))
 
 
 # ---- by log

@@ -1,4 +1,4 @@
-/* The guard for C and C++ hosts: one call over a stored log, a live session over memory that the host lends, and the sheet of an opened book, written back.
+/* The guard for C and C++ hosts: one call over a stored log, a live session over memory that the host lends, the sheet of an opened book, written back, and a round of one of its rules, played.
  * Link with target/libguard.a, which `hosts/build` proves and writes (x86-64). docs/EMBEDDING.md says what a host does at each answer, what is proved, and what the
  * host must keep true; docs/SHEETS.md has the formats of sheets and logs, and every refusal with an example. */
 #ifndef GUARD_H
@@ -14,8 +14,8 @@ extern "C" {
 /* ---- versions */
 
 /* This header's library. It rises with each call that is added or changed, as opening is by the sheets that it reads, and with the memory that a host lends. From 5 on v = 0 is read,
- * and 6 has guard_write. */
-#define GUARD_LIBRARY_VERSION 6
+ * 6 has guard_write, and 7 has guard_play. */
+#define GUARD_LIBRARY_VERSION 7
 
 /* The newest version of a sheet that this library reads; each older one is read too. Version 2 has shuffled fragments and ranges without an upper end. */
 #define GUARD_SHEET_VERSION 2
@@ -28,8 +28,8 @@ uint32_t guard_sheet_version(void);
 #define GUARD_BOOK_WORDS 1106
 #define GUARD_MONITOR_BYTES 528
 
-/* The calls as the library has them: a book is so many words, a monitor so many bytes, and an answer's four fields are one number, lowest first; guard4_write answers minus 16 as
- * 2^64 - 16. The number in their names is that of this layout, so that a header and a library of different layouts do not link. Use the functions below, whose names stay. */
+/* The calls as the library has them: a book is so many words, a monitor so many bytes, and an answer's four fields are one number, lowest first; guard4_write and guard4_play
+ * answer a refusal n as 2^64 - n. The number in their names is that of this layout, so that a header and a library of different layouts do not link. Use the functions below, whose names stay. */
 uint32_t guard4_run(const uint8_t *sheet, size_t sheet_length, const uint8_t *log, size_t log_length, uint32_t budget, uint8_t *out, size_t out_length);
 uint64_t guard4_open(const uint8_t *sheet, size_t sheet_length, uint64_t *book, uint8_t *monitor);
 void guard4_start(uint8_t *monitor);
@@ -38,6 +38,7 @@ uint64_t guard4_clock(const uint64_t *book, uint8_t *monitor, uint32_t time);
 uint64_t guard4_verdict(const uint8_t *monitor);
 uint32_t guard4_taken(const uint8_t *monitor);
 uint64_t guard4_write(const uint64_t *book, uint8_t *buffer, size_t length);
+uint64_t guard4_play(const uint64_t *book, uint32_t rule, uint32_t time, const uint8_t *choice, size_t choice_length, uint8_t *out, size_t out_length);
 
 /* ---- answers */
 
@@ -49,7 +50,7 @@ enum {
 };
 
 /* Refusals, "Where each refusal is found". 1 to 10 are a sheet's, 11 to 13 an observation's, 14 a log's, 15 an output's, 16 the buffer's of
- * guard_write. docs/SHEETS.md has an example of each, and `./run` takes its words from this table. */
+ * guard_write, 17 and 18 those of guard_play. docs/SHEETS.md has an example of each, and `./run` takes its words from this table. */
 enum {
     GUARD_TRUNCATED = 1,      /* a field doesn't fit in the bytes left */
     GUARD_MARK = 2,           /* the mark is not "LOB" */
@@ -66,7 +67,9 @@ enum {
     GUARD_COUNT_FULL = 13,    /* 4,294,967,295 observations are already taken */
     GUARD_LOG_LENGTH = 14,    /* the log's length is no multiple of 5, or above 4,294,967,295 bytes */
     GUARD_OUTPUT = 15,        /* the output has under 12 bytes */
-    GUARD_BUFFER = 16         /* the buffer is shorter than the sheet */
+    GUARD_BUFFER = 16,        /* the buffer is shorter than the sheet */
+    GUARD_RULE = 17,          /* the book has no rule of this number */
+    GUARD_ROUND = 18          /* the chosen round is longer than the output */
 };
 
 /* A refusal's text, in one line and without its place; "unknown refusal" for any other number, 0 too. */
@@ -89,8 +92,10 @@ static inline const char *guard_refusal_text(uint32_t number)
         "the log's length is no multiple of 5, or above 4,294,967,295",
         "the output has under 12 bytes",
         "the buffer is shorter than the sheet",
+        "the book has no rule of this number",
+        "the chosen round is longer than the output",
     };
-    return number >= GUARD_TRUNCATED && number <= GUARD_BUFFER ? texts[number - GUARD_TRUNCATED] : "unknown refusal";
+    return number >= GUARD_TRUNCATED && number <= GUARD_ROUND ? texts[number - GUARD_TRUNCATED] : "unknown refusal";
 }
 
 /* ---- one call over a log */
@@ -177,7 +182,13 @@ static inline uint32_t guard_taken(const guard_monitor *monitor)
     return guard4_taken(monitor->bytes);
 }
 
-/* ---- a book written back */
+/* ---- a book written back, and a round of one of its rules */
+
+/* How many bytes or records were written, or minus a refusal's number. */
+static inline int64_t guard_count_of(uint64_t word)
+{
+    return word >> 63 ? -(int64_t)~word - 1 : (int64_t)word;
+}
 
 /* Writes the sheet of a book that guard_open made into the buffer: its own bytes, in its own version. The answer is their number, and later bytes of the buffer stay as they were.
  * Or it is -16, and nothing is written: the buffer is shorter than the sheet. Just the sheet's length is enough, and GUARD_SHEET_BYTES always is. The written bytes open into the same
@@ -185,8 +196,17 @@ static inline uint32_t guard_taken(const guard_monitor *monitor)
  * so many bytes of the buffer is written. */
 static inline int64_t guard_write(const guard_book *book, uint8_t *buffer, size_t length)
 {
-    uint64_t word = guard4_write(book->words, buffer, length);
-    return word >> 63 ? -(int64_t)~word - 1 : (int64_t)word;
+    return guard_count_of(guard4_write(book->words, buffer, length));
+}
+
+/* Plays the plugin, and the host's own calls too: writes one round of a rule of a book that guard_open made into the output, as log records of GUARD_RECORD_BYTES each, all at this time. The rule
+ * is its number in the sheet, in file order from 0. Every choice gives a round that matches, and missing choice bytes count as 0; docs/PLAYING.md says which bytes pick which round. The answer is
+ * the number of records, and later bytes of the output stay as they were. Or it is a refusal, and nothing is written: -17, which is looked at first, the book has no rule of this number; -18, the
+ * round is longer than the output. Book, choice and output do not overlap. For a book that guard_open did not make the names are free: the call returns, and the number is -17, -18 or at most
+ * out_length / 5. */
+static inline int64_t guard_play(const guard_book *book, uint32_t rule, uint32_t time, const uint8_t *choice, size_t choice_length, uint8_t *out, size_t out_length)
+{
+    return guard_count_of(guard4_play(book->words, rule, time, choice, choice_length, out, out_length));
 }
 
 #ifdef __cplusplus

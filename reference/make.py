@@ -1,14 +1,20 @@
-"""Makes the cases that the program `vectors` runs through the guard, with what is due for each.
+"""Makes the cases that the program `vectors` runs through the guard, and the rounds that it plays, with what is due for each.
 
     python3 make.py FOLDER
 
-writes FOLDER/data/cases.bin, FOLDER/cases.txt and FOLDER/stdout. Everything follows from SEED: two
-runs write the same bytes. The format of cases.bin (all numbers little-endian):
+writes FOLDER/data/cases.bin, FOLDER/data/plays.bin, FOLDER/cases.txt and FOLDER/stdout. Everything
+follows from SEED: two runs write the same bytes. The format of cases.bin (all numbers little-endian):
 
     u32 number of cases, u32 number of cases to be shown, which come first; then each case:
     u16 length of the sheet, the sheet, u16 length of the log, the log, u32 budget,
     the 12 bytes due, u8 cause: what the due break came by (0 none, 1 an own event of a rule in the
     mask, 2 an event foreign to those rules, 3 a clock reading)
+
+and of plays.bin:
+
+    u32 number of sheets; then each sheet: u16 length, the sheet, u16 number of its plays; then each of them:
+    u16 length of the choice, the choice, u16 length of the output, u32 rule, u32 time,
+    u64 the number of records due, or 2^64 - 17 or 2^64 - 18, u16 length of the records, the records
 """
 
 import itertools
@@ -19,6 +25,8 @@ import sys
 from collections import Counter, namedtuple
 
 import guard
+import playing
+import plays
 import words
 import writing
 from endless import SCENARIOS, endless_cases
@@ -419,6 +427,7 @@ def case_bytes(case, result, why):
 
 
 WRITTEN = 'books written back'     # change 3: each accepted case's
+PLAYED = {'rounds played': 'records', 'refusal 17': 'refusal 17', 'refusal 18': 'refusal 18'}     # change 5: the plays' lines, by the words of plays.py
 
 # What changes 1 and 2 bring, by a word for each. 'join 2 is not 0': with join 0 in the place of 2 the case is due something else; 'no upper end is not u': with v = u in the place of v = 0.
 SWAPS = {'join 2 is not 0': (ALL_SHUFFLED, ALL), 'join 3 is not 1': (ANY_SHUFFLED, ANY),
@@ -504,6 +513,7 @@ class Tally:
         self.cases = 0
         self.families, self.answers, self.refusals, self.causes, self.features = Counter(), Counter(), Counter(), Counter(), Counter()
         self.several = 0
+        self.plays = Counter()
 
     def add(self, case, result, why):
         self.cases += 1
@@ -532,11 +542,34 @@ class Tally:
         for c in (1, 2, 3):
             yield 'broken by ' + CAUSES[c] + ': ' + number(self.causes[c])
         yield WRITTEN + ': ' + number(self.features[WRITTEN])
+        for line, word in PLAYED.items():
+            yield line + ': ' + number(self.plays[word])
+
+
+# ---------------------------------------------------------------------------------------------
+# The plays
+# ---------------------------------------------------------------------------------------------
+
+PLAY_ROOM = 2048     # of choice bytes, and of output: the longer ones are played by tests/host
+
+
+def play_bytes(case, due):
+    return b''.join((struct.pack('<H', len(case.choice)), case.choice, struct.pack('<HIIQ', case.length, case.number, case.time, due.answer % 2 ** 64),
+                     struct.pack('<H', len(due.records)), due.records))
+
+
+def stored_plays(met):
+    """The bytes of plays.bin; `met` counts what is in it."""
+    cases = (case for case in plays.all_plays(Dice(random.Random(SEED).random)) if max(len(case.choice), case.length) <= PLAY_ROOM)
+    body = list(plays.by_sheet(cases, play_bytes, met, plays.features, plays.other_readings))
+    plays.hold_met(met, plays.FEW)
+    return struct.pack('<I', len(body)) + b''.join(body)
 
 
 def write(folder):
     words.hold()
     writing.hold()
+    playing.hold()
     body, shown, tally = [], [], Tally()
     for case in all_cases():
         result = guard.run(case.sheet, case.log, case.budget)
@@ -549,12 +582,15 @@ def write(folder):
     os.makedirs(os.path.join(folder, 'data'), exist_ok=True)
     with open(os.path.join(folder, 'data', 'cases.bin'), 'wb') as f:
         f.write(struct.pack('<II', len(body), len(shown)) + b''.join(body))
+    with open(os.path.join(folder, 'data', 'plays.bin'), 'wb') as f:
+        f.write(stored_plays(tally.plays))
     with open(os.path.join(folder, 'cases.txt'), 'w') as f:
         f.write('seed %d\n' % SEED)
         f.writelines(line + '\n' for line in tally.lines(str))
         f.write('more than one rule in the mask: %d\n' % tally.several)
         f.writelines('%s: %d\n' % row for row in tally.families.items())
         f.writelines('%s: %d\n' % (feature, tally.features[feature]) for feature in FEATURES)
+        f.writelines('playing: %s: %d\n' % (feature, tally.plays[feature]) for feature in [*plays.FEATURES, *plays.FEW] if feature not in PLAYED.values())
     with open(os.path.join(folder, 'stdout'), 'w') as f:
         f.writelines(line + '\n' for line in shown)
         f.writelines(line + '\n' for line in tally.lines(lambda n: '%d of %d' % (n, n)))

@@ -3,6 +3,7 @@
  *     run SHEET LOG OUTPUT            guard_run with an output of that many bytes: what it returns, then all 16 bytes of the buffer, which was filled with A5
  *     live SHEET TAKEN NAME@TIME ..   a session that has taken so many before: for the opening and each observation ANSWER:REFUSAL:MASK:PLACE, then the taken count
  *     write SHEET LENGTH              the sheet opened and its book written into a buffer of that many bytes: what guard_write returns, then the buffer and 4 bytes more, filled with A5
+ *     play SHEET RULE TIME CHOICE LENGTH   the sheet opened and a round played into an output of that many bytes: what guard_play returns, then the output in the same way
  *
  * Bytes are in hexadecimal, - for none; the name c is a reading of the clock. */
 #include "guard.h"
@@ -77,20 +78,53 @@ static void live(void)
     printf("%u\n", (unsigned)guard_taken(&monitor));
 }
 
-static void write_back(void)
+static uint32_t number(void)
 {
-    static guard_book book;
-    static guard_monitor monitor;
+    return (uint32_t)strtoul(word(), NULL, 10);
+}
+
+/* What a call writes: so many bytes and 4 more, filled with A5. */
+static uint8_t *filled(size_t length)
+{
     static uint8_t buffer[sizeof sheet];
-    size_t n = bytes_of(word(), sheet, sizeof sheet), length = (size_t)strtoul(word(), NULL, 10);
     if (length > sizeof buffer - 4)
         exit(2);
-    guard_open(&book, &monitor, sheet, n); /* of a refused sheet something else is written */
-    memset(buffer, 0xA5, sizeof buffer);
-    printf("%lld ", (long long)guard_write(&book, buffer, length));
+    return memset(buffer, 0xA5, length + 4);
+}
+
+static void tell_written(int64_t returned, const uint8_t *buffer, size_t length)
+{
+    printf("%lld ", (long long)returned);
     for (size_t i = 0; i < length + 4; i++)
         printf("%02X", buffer[i]);
     printf("\n");
+}
+
+/* The book of a sheet; of a refused one something else is written. */
+static const guard_book *opened(void)
+{
+    static guard_book book;
+    static guard_monitor monitor;
+    size_t n = bytes_of(word(), sheet, sizeof sheet);
+    guard_open(&book, &monitor, sheet, n);
+    return &book;
+}
+
+static void write_back(void)
+{
+    const guard_book *book = opened();
+    size_t length = number();
+    uint8_t *buffer = filled(length);
+    tell_written(guard_write(book, buffer, length), buffer, length);
+}
+
+static void play(void)
+{
+    const guard_book *book = opened();
+    uint32_t rule = number(), time = number();
+    size_t n = bytes_of(word(), records, sizeof records), length = number();
+    uint8_t *out = filled(length);
+    tell_written(guard_play(book, rule, time, records, n, out, length), out, length);
 }
 
 int main(void)
@@ -104,6 +138,8 @@ int main(void)
             live();
         else if (what != NULL && strcmp(what, "write") == 0)
             write_back();
+        else if (what != NULL && strcmp(what, "play") == 0)
+            play();
         else
             return 2;
         fflush(stdout);

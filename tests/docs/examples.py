@@ -13,6 +13,8 @@ A block of the page stands between lines of three backquotes, and its first line
     traces SHEET                a trace a line, and its verdict
     refused NUMBER at PLACE     the bytes of a sheet, or 'no bytes'; an arrow below the place
     call SHEET with an output of N bytes    then 'returns NUMBER'
+    write SHEET into a buffer of N bytes    the same
+    play rule RULE of SHEET at TIME [by BYTES] into an output of N bytes    the same, then the records as lines OFFSET: BYTES  words
 
 Last of all each claim of the page is changed, one at a time, and the page has to be found at fault.
 """
@@ -34,6 +36,7 @@ sys.path[:0] = [INTERCOM, os.path.join(ROOT, 'reference')]     # each folder has
 
 import guard    # noqa: E402
 import make     # noqa: E402
+import playing  # noqa: E402
 from guard import BROKEN, CLOCK, MOST, OPEN, REFUSED, WHOLE     # noqa: E402
 
 ANSWERS = {WHOLE: 'whole', OPEN: 'open', BROKEN: 'broken', REFUSED: 'refused'}
@@ -86,6 +89,11 @@ class Reference:
         returned = guard.write_into(self.read(sheet), buffer)
         return returned, bytes(buffer) + b'\xA5' * 4
 
+    def play(self, sheet, rule, time, choice, length):
+        out = bytearray(b'\xA5' * length)
+        returned = playing.play(self.read(sheet), rule, time, choice, out)
+        return returned, bytes(out) + b'\xA5' * 4
+
     def live(self, sheet, taken, observations):
         judge = guard.Judge(self.read(sheet).rules)
         if taken:
@@ -117,6 +125,10 @@ class Library:
     def write(self, sheet, length):
         returned, buffer = self.ask('write', sheet.hex(), str(length))
         return int(returned), bytes.fromhex(buffer)
+
+    def play(self, sheet, rule, time, choice, length):
+        returned, out = self.ask('play', sheet.hex(), str(rule), str(time), choice.hex() or '-', str(length))
+        return int(returned), bytes.fromhex(out)
 
     def live(self, sheet, taken, observations):
         shown = ['%s@%d' % ('c' if name == CLOCK else name, time) for name, time in observations]
@@ -156,7 +168,8 @@ class Page:
 
     KINDS = (('text', r'# (\w+\.txt)'), ('commands', r'\$ .*'), ('sheet', r'sheet (\w+)'), ('log', r'log (\w+) on (\w+)'), ('trace', r'trace ([\w/]+)(?:, (\d+) taken before)?'),
              ('traces', r'traces (\w+)'), ('refused', r'refused (\d+) at (\d+)'), ('call', r'call (\w+) with an output of (\d+) bytes'),
-             ('write', r'write (\w+) into a buffer of (\d+) bytes'))
+             ('write', r'write (\w+) into a buffer of (\d+) bytes'),
+             ('play', r'play rule (\d+) of (\w+) at (\d+)(?: by ((?:[0-9A-F]{2} )*[0-9A-F]{2}))? into an output of (\d+) bytes'))
 
     def kind_of(self, head):
         for kind, pattern in self.KINDS:
@@ -168,7 +181,7 @@ class Page:
     def faults(self):
         """The faults of all blocks; those that define sheets come first, since traces may stand above them."""
         found = []
-        for wanted in (('text',), ('sheet',), ('log', 'trace', 'traces', 'refused', 'call', 'write'), ('commands',)):
+        for wanted in (('text',), ('sheet',), ('log', 'trace', 'traces', 'refused', 'call', 'write', 'play'), ('commands',)):
             for line, lines in self.blocks:
                 try:
                     kind, words = self.kind_of(lines[0] if lines else '')
@@ -366,6 +379,18 @@ class Page:
             hold(who.name + ' leaves the buffer', (rest if returned < 0 else sheet + rest[len(sheet):]).hex(), buffer.hex())
         self.refused(-returned if returned < 0 else 0)
 
+    def block_play(self, lines, rule, name, time, choice, length):
+        found = re.fullmatch(r'returns (-?\d+)', lines[1] if len(lines) > 1 else '')
+        if not found:
+            raise Fault('a play says what it returns, and then its records')
+        sheet, _ = self.sheet(name)
+        returned, records, rest = int(found[1]), self.dump(lines[2:]), b'\xA5' * (int(length) + 4)
+        for who in self.judges:
+            said, out = who.play(sheet, int(rule), int(time), bytes.fromhex(choice or ''), int(length))
+            hold(who.name, returned, said)
+            hold(who.name + ' leaves the output', (records + rest[len(records):]).hex(), out.hex())
+        self.refused(-returned if returned < 0 else 0)
+
     # -- commands
 
     def block_commands(self, lines):
@@ -411,8 +436,8 @@ def page_faults(text, judges):
         found = page.faults()
     except Fault as fault:
         return [str(fault)], None
-    if page.refusals != set(range(1, 17)):
-        found.append('refusals without an example: %s' % sorted(set(range(1, 17)) - page.refusals))
+    if page.refusals != set(range(1, 19)):
+        found.append('refusals without an example: %s' % sorted(set(range(1, 19)) - page.refusals))
     heads = {int(n): words for n, words in re.findall(r'^### (\d+): (.*)$', text, re.M)}
     if heads != header_words():
         found.append('the headings of the refusals are not the words of include/guard.h')
@@ -451,7 +476,7 @@ def changes(text):
             yield put('refused %s at %d' % (number, int(place) + 1))
         elif '^^' in line:
             yield put('   ' + line)
-        elif re.match(r'(\d+: +)?[0-9A-F]{2}( |$)', line) and head.split()[0] in ('sheet', 'log'):
+        elif re.match(r'(\d+: +)?[0-9A-F]{2}( |$)', line) and head.split()[0] in ('sheet', 'log', 'play'):
             m = re.match(r'(\d+: +)?(.)', line)
             if 'prints 3 14' not in '\n'.join(lines[i:]).split('```')[0]:      # which no byte of a log changes
                 yield put(line[:m.end() - 1] + ('1' if m[2] != '1' else '2') + line[m.end():])

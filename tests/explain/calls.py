@@ -65,7 +65,7 @@ def other_library(stubbed):
     """Numbers that this version doesn't have, records that the log doesn't have, and a sheet of version 3."""
     group = Group('a library that answers otherwise')
     log = log_bytes(make.observations('1@5 0@6'))
-    group.hold('17', stubbed.on(R, log, GUARD_STUB='3 17 0 0 7'), HEADS[R] + ['refused 17 at byte 7: unknown refusal'], 2)
+    group.hold('19', stubbed.on(R, log, GUARD_STUB='3 19 0 0 7'), HEADS[R] + ['refused 19 at byte 7: unknown refusal'], 2)
     group.hold('0', stubbed.on(R, log, GUARD_STUB='3 0 0 0 0'), HEADS[R] + ['refused 0 at byte 0: unknown refusal'], 2)
     group.hold('no field', stubbed.on(R, log, GUARD_STUB='3 7 0 0 26'), HEADS[R] + ['refused 7 at byte 26: ' + TEXTS[7], '  no field that this program knows begins there'], 2)
     answers = ('4 0 0 0 0', '255 0 0 0 0', '2 0 1 1 0', '2 0 1 3 3', '1 0 1 3 0', '3 12 0 2 10', '3 11 0 0 4294967295')

@@ -16,7 +16,7 @@ def file_bytes(*path):
 def header_texts():
     """The refusals' texts, from include/guard.h."""
     listed = re.findall(r'^        "(.*)",$', file_bytes('include', 'guard.h').decode(), re.M)
-    assert len(listed) == 16
+    assert len(listed) == 18
     return {number: text.replace('\\"', '"') for number, text in enumerate(listed, 1)}
 
 

@@ -4,30 +4,59 @@
 struct reference_case *cases;
 size_t case_count;
 
-/* ---- reading the file */
+/* ---- reading a file */
+
+const uint8_t *file_bytes(const char *path, size_t *length)
+{
+    static uint8_t *kept[3];
+    static int count;
+    FILE *file = fopen(path, "rb");
+    long size = 0;
+    uint8_t *bytes = NULL;
+    if (file && fseek(file, 0, SEEK_END) == 0 && (size = ftell(file)) > 0 && fseek(file, 0, SEEK_SET) == 0)
+        bytes = malloc((size_t)size);
+    if (!bytes || count == sizeof kept / sizeof *kept || fread(bytes, 1, (size_t)size, file) != (size_t)size) {
+        fprintf(stderr, "%s can't be read\n", path);
+        exit(2);
+    }
+    fclose(file);
+    *length = (size_t)size;
+    return kept[count++] = bytes;
+}
 
 static const uint8_t *at, *end;
 
-static const uint8_t *take(size_t n)
+void begin_file(const char *path)
+{
+    size_t length;
+    at = file_bytes(path, &length), end = at + length;
+}
+
+const uint8_t *take(size_t n)
 {
     const uint8_t *taken = at;
     if ((size_t)(end - at) < n) {
-        fprintf(stderr, "the file of cases is cut off\n");
+        fprintf(stderr, "a file of cases is cut off\n");
         exit(2);
     }
     at += n;
     return taken;
 }
 
-static uint32_t take_four(void)
+uint32_t take_four(void)
 {
     return four_bytes(take(4));
 }
 
-static size_t take_two(void)
+size_t take_two(void)
 {
     const uint8_t *b = take(2);
     return b[0] | (size_t)b[1] << 8;
+}
+
+int file_ended(void)
+{
+    return at == end;
 }
 
 static guard_answer take_answer(void)
@@ -61,29 +90,10 @@ struct observation observation_of(const struct reference_case *c, size_t i)
     return o;
 }
 
-const uint8_t *file_bytes(const char *path, size_t *length)
-{
-    static uint8_t *kept[2];
-    static int count;
-    FILE *file = fopen(path, "rb");
-    long size = 0;
-    uint8_t *bytes = NULL;
-    if (file && fseek(file, 0, SEEK_END) == 0 && (size = ftell(file)) > 0 && fseek(file, 0, SEEK_SET) == 0)
-        bytes = malloc((size_t)size);
-    if (!bytes || count == sizeof kept / sizeof *kept || fread(bytes, 1, (size_t)size, file) != (size_t)size) {
-        fprintf(stderr, "%s can't be read\n", path);
-        exit(2);
-    }
-    fclose(file);
-    *length = (size_t)size;
-    return kept[count++] = bytes;
-}
-
 /* The cases point into the file's bytes. */
 void read_cases(const char *path)
 {
-    size_t length;
-    at = file_bytes(path, &length), end = at + length;
+    begin_file(path);
     case_count = take_four();
     cases = calloc(case_count, sizeof *cases);
     for (size_t i = 0; i < case_count; i++)

@@ -1,5 +1,6 @@
 /* Books and monitors that the calls did not make. "For a table or monitor that these calls didn't make, or a monitor opened for another book, the verdict is free; the call
- * still returns and touches nothing but the monitor." The book can't be written meanwhile, and both end or start at a page's edge. Such books are written back too. */
+ * still returns and touches nothing but the monitor." The book can't be written meanwhile, and both end or start at a page's edge. Such books are written back too,
+ * and their rules are played. */
 #include "host.h"
 
 #define ROUNDS 6000
@@ -183,6 +184,61 @@ static void check_garbage_written(void)
     tell("garbage books, kinds of answers to a write, each a thousand times", (refused >= 1000) + (count - refused >= 1000), (refused < 1000) + (count - refused < 1000));
 }
 
+/* ---- playing: the call returns, and it writes so many records of its output as it answers, the same at each call. */
+
+#define PLAYED 1600
+#define PLAYED_ROOM 20480
+
+struct played {
+    struct pages outs, choices;
+    const uint8_t *before;
+    long count, kinds[3]; /* records, 17 and 18 */
+};
+
+static long wrong_played(const guard_book *book, struct played *p, int at_end, uint32_t rule, size_t choice_length, size_t length)
+{
+    static uint8_t first[PLAYED_ROOM];
+    uint8_t *all = p->outs.start, *out = edge(p->outs, at_end, length), *choice = edge(p->choices, at_end, choice_length);
+    uint32_t time = (uint32_t)number();
+    memcpy(all, p->before, PLAYED_ROOM);
+    int64_t said = guard_play(book, rule, time, choice, choice_length, out, length);
+    size_t from = (size_t)(out - all), after = from + (said < 0 ? 0 : GUARD_RECORD_BYTES * (size_t)said);
+    if ((said < 0 && said != -GUARD_RULE && said != -GUARD_ROUND) || (said >= 0 && (size_t)said > length / GUARD_RECORD_BYTES))
+        return 1;
+    p->count++, p->kinds[said < 0 ? -said - GUARD_BUFFER : 0]++;
+    long wrong = memcmp(all, p->before, from) != 0 || memcmp(all + after, p->before + after, PLAYED_ROOM - after) != 0;
+    memcpy(first, all, PLAYED_ROOM);
+    memcpy(all, p->before, PLAYED_ROOM);
+    return wrong || guard_play(book, rule, time, choice, choice_length, out, length) != said || memcmp(all, first, PLAYED_ROOM) != 0;
+}
+
+static void check_garbage_played(void)
+{
+    static uint8_t before[PLAYED_ROOM];
+    struct desk d = {pages_for(sizeof(guard_book)), pages_for(sizeof(guard_monitor)), NULL, NULL};
+    struct played p = {pages_for(PLAYED_ROOM), pages_for(256), before, 0, {0, 0, 0}};
+    long kinds = 0, wrong = 0;
+    scramble(before, PLAYED_ROOM);
+    for (int round = 0; round < PLAYED; round++) {
+        int at_end = round % 2;
+        const size_t lengths[] = {below(13), below(200), PLAYED_ROOM - below(8)};
+        const uint32_t rules[] = {0, below(16), below(4) ? below(20) : (uint32_t)number()};
+        d.book = (void *)edge(d.books, at_end, sizeof *d.book);
+        d.monitor = (void *)edge(d.monitors, at_end, sizeof *d.monitor);
+        prepare(&d, (enum source)(round / 2 % SOURCES), REAL);
+        writable(p.choices);
+        scramble(p.choices.start, (size_t)(p.choices.end - p.choices.start));
+        read_only(p.choices);
+        for (size_t i = 0; i < sizeof lengths / sizeof *lengths; i++)
+            if (wrong_played(d.book, &p, at_end, rules[i], below(3) ? below(256) : 0, lengths[(i + (size_t)round / 2) % 3]))
+                wrong += differs("garbage played", round);
+    }
+    tell("garbage books played, inside the output and within the number answered, twice the same", p.count, wrong);
+    for (int k = 0; k < 3; k++)
+        kinds += p.kinds[k] >= 100;
+    tell("garbage books, kinds of answers to a play, each a hundred times", kinds, 3 - kinds);
+}
+
 void check_garbage(void)
 {
     struct tally n;
@@ -203,4 +259,5 @@ void check_garbage(void)
         kinds += n.answers[a] >= 1000;
     tell("kinds of answers to garbage, each a thousand times", kinds, 4 - kinds);
     check_garbage_written();
+    check_garbage_played();
 }

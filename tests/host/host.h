@@ -51,6 +51,13 @@ extern const uint8_t sheet_e[E_BYTES], sheet_f[F_BYTES], sheet_g[G_BYTES], sheet
 /* A file's bytes, which are kept; what can't be read ends the program. */
 const uint8_t *file_bytes(const char *path, size_t *length);
 
+/* Begins a file, whose next bytes and numbers are then taken; if they are not there, the program ends. */
+void begin_file(const char *path);
+const uint8_t *take(size_t n);
+size_t take_two(void);
+uint32_t take_four(void);
+int file_ended(void);
+
 /* ---- the cases that cases.py writes */
 
 struct observation {
@@ -95,6 +102,11 @@ struct pages pages_for(size_t length);
 uint8_t *edge(struct pages p, int at_end, size_t length);
 void read_only(struct pages p);
 void writable(struct pages p);
+/* Bytes at an edge, which then can only be read. */
+const uint8_t *lend(struct pages p, int at_end, const uint8_t *bytes, size_t length);
+
+/* Whole pages that can be written, and right behind them `beyond` bytes, also more than there is memory, that can't be touched: where these begin. */
+uint8_t *forbidden_after(size_t room, size_t beyond);
 
 /* ---- sessions */
 
@@ -112,6 +124,7 @@ void check_long(const char *path);
 void check_sessions(void);
 void check_pages(void);
 void check_writing(const char *path);
+void check_playing(const char *path);
 void check_garbage(void);
 
 #endif

@@ -59,6 +59,8 @@ fn wrong() -> Result<i32, Refusal> {
     wrong += i32::from(!refused.is::<Refusal>());
     let mut sheet = [0; 34];
     wrong += i32::from(book.write(&mut sheet)? != 34 || sheet != R);
+    let mut round = [0; 15];
+    wrong += i32::from(book.play(0, 5, &[2], &mut round)? != 3 || round != [1, 5, 0, 0, 0, 0, 5, 0, 0, 0, 2, 5, 0, 0, 0]);
     Ok(wrong + i32::from(run(&R, &[], 1).answer != Ok(Verdict::Whole)))
 }
 

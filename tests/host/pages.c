@@ -43,14 +43,20 @@ void writable(struct pages p)
     need(mprotect(p.start, (size_t)(p.end - p.start), PROT_READ | PROT_WRITE) == 0, "mprotect");
 }
 
-/* Bytes at an edge, which then can only be read. */
-static const uint8_t *lend(struct pages p, int at_end, const uint8_t *bytes, size_t length)
+const uint8_t *lend(struct pages p, int at_end, const uint8_t *bytes, size_t length)
 {
     uint8_t *place = edge(p, at_end, length);
     writable(p);
     memcpy(place, bytes, length);
     read_only(p);
     return place;
+}
+
+uint8_t *forbidden_after(size_t room, size_t beyond)
+{
+    uint8_t *all = mmap(NULL, room + beyond, PROT_NONE, MAP_PRIVATE | MAP_ANONYMOUS | MAP_NORESERVE, -1, 0);
+    need(all != MAP_FAILED && mprotect(all, room, PROT_READ | PROT_WRITE) == 0, "mmap");
+    return all + room;
 }
 
 /* A child touches the byte; it has to end by a signal. */
@@ -175,8 +181,7 @@ static void check_lent_at_edges(void)
 static void check_unread(void)
 {
     const size_t most = ALL, room = 65536;
-    uint8_t *all = mmap(NULL, room + most + 4096, PROT_NONE, MAP_PRIVATE | MAP_ANONYMOUS | MAP_NORESERVE, -1, 0), *unread = all + room, out[12];
-    need(all != MAP_FAILED && mprotect(all, room, PROT_READ | PROT_WRITE) == 0, "mmap");
+    uint8_t *unread = forbidden_after(room, most + 4096), out[12];
     long count = 0, wrong = 0;
     for (size_t i = 0; i < case_count; i++) {
         const struct reference_case *c = &cases[i];
@@ -195,7 +200,7 @@ static void check_unread(void)
     for (size_t length = most + 1; length <= most + 5; length++)
         wrong += guard_run(sheet_t, T_BYTES, unread, length, ALL, out, 12) != 0 || memcmp(out, (const uint8_t[12]){3, 14}, 12) != 0;
     tell("longer logs, 14 and no record read", 5, wrong);
-    munmap(all, room + most + 4096);
+    munmap(unread - room, room + most + 4096);
 }
 
 void check_pages(void)

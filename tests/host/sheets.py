@@ -1,5 +1,5 @@
 #!/usr/bin/env python3
-"""The sheets that the host tests write back: every accepted one of those stored for `sheets`, `vectors` and `replay`, each once, and some made of them.
+"""The sheets that the host tests write back: every accepted one of those stored for `sheets`, `vectors` (its cases) and `replay`, each once, and some made of them.
 
     python3 tests/host/sheets.py FILE
 

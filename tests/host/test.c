@@ -1,5 +1,6 @@
 /* The guard from C. The call of a C host, by hand: the printed case, a budget, refusals, a short output, the bytes behind the twelve. What is due is written out from
- * document 01. The other files check sheets, traces, the reference's cases, sessions, page edges, books written back and garbage; each check prints a line, and any failure ends with status 1. */
+ * document 01. The other files check sheets, traces, the reference's cases, sessions, page edges, books written back, rounds played and garbage; each check prints a line, and any
+ * failure ends with status 1. */
 #define _POSIX_C_SOURCE 200112L
 #include "host.h"
 
@@ -160,18 +161,19 @@ static void check_outputs(void)
     tell("outputs of 12 to 80 bytes, as they were from byte 12 on", longer, wrong_longer);
 }
 
-/* Numbers 1 to 16 have a text each, of one line; no other number has. A word of each stands here by hand, so that no text has slipped to its neighbour. */
+/* Numbers 1 to 18 have a text each, of one line; no other number has. A word of each stands here by hand, so that no text has slipped to its neighbour. */
 static void check_texts(void)
 {
-    static const char *const words[16] = {"cut off",       "mark",      "nor 2",      "0 to 3",     "not 0", "above 63",      "below u",  "already in the rule",
-                                          "Q is an input", "left over", "the latest", "name is 64", "taken", "multiple of 5", "under 12", "shorter than the sheet"};
+    static const char *const words[18] = {"cut off",       "mark",      "nor 2",      "0 to 3",     "not 0", "above 63",      "below u",  "already in the rule",
+                                          "Q is an input", "left over", "the latest", "name is 64", "taken", "multiple of 5", "under 12", "shorter than the sheet",
+                                          "no rule",       "longer than the output"};
     long count = 0, wrong = 0;
-    for (uint32_t n = 1; n <= 16; n++, count++) {
+    for (uint32_t n = 1; n <= 18; n++, count++) {
         const char *text = guard_refusal_text(n);
         if (strstr(text, words[n - 1]) == NULL || strchr(text, '\n') != NULL || strcmp(text, "unknown refusal") == 0)
             wrong += differs("a refusal's text", n);
     }
-    static const uint32_t unknown[] = {0, 17, 18, 23, 255, 256, 257, 272, 2147483648u, ALL};
+    static const uint32_t unknown[] = {0, 19, 20, 23, 255, 256, 257, 274, 2147483648u, ALL};
     for (size_t i = 0; i < sizeof unknown / sizeof *unknown; i++, count++)
         if (strcmp(guard_refusal_text(unknown[i]), "unknown refusal") != 0)
             wrong += differs("the text of a number that is no refusal", (long)unknown[i]);
@@ -180,8 +182,8 @@ static void check_texts(void)
 
 int main(int argc, char **argv)
 {
-    if (argc != 4) {
-        fprintf(stderr, "usage: test CASES LONG SHEETS, a file that cases.py wrote, long.txt, and a file that sheets.py wrote\n");
+    if (argc != 5) {
+        fprintf(stderr, "usage: test CASES LONG SHEETS PLAYS, a file that cases.py wrote, long.txt, and files that sheets.py and playing.py wrote\n");
         return 2;
     }
     setvbuf(stdout, NULL, _IOLBF, 0); /* a fault ends the program: what was checked before it stays seen */
@@ -197,6 +199,7 @@ int main(int argc, char **argv)
     check_sessions();
     check_pages();
     check_writing(argv[3]);
+    check_playing(argv[4]);
     check_garbage();
     return failed;
 }

@@ -1,6 +1,7 @@
-// The cases of cases.bin for the program `vectors`: their bytes read from the file, the answer due held to the one given, and how many agree counted and printed: of all, by answer, by refusal,
-// by what a break came by, and of the books written back. reference/make.py says the file's format.
+// The cases of cases.bin and the plays of plays.bin for the program `vectors`: their bytes read from the file, the answer due held to the one given, and how many agree counted and printed: of all,
+// by answer, by refusal, by what a break came by, of the books written back, and of the plays by their answer. reference/make.py says the files' formats.
 pub mod number;
+pub mod play;
 pub mod tally;
 
 use number::four;
@@ -15,8 +16,12 @@ pub fn print(text: &[u8]) {
     io::write_all(libc::STDOUT_FILENO, text);
 }
 
+fn print_wide(n: u64) {
+    io::print_decimal(libc::STDOUT_FILENO, n);
+}
+
 fn print_number(n: u32) {
-    io::print_decimal(libc::STDOUT_FILENO, n as u64);
+    print_wide(n as u64);
 }
 
 // The five numbers of an answer: answer, refusal, mask, taken, place.
@@ -164,4 +169,7 @@ pub fn print_tally(dues: &[u32; SLOTS], mets: &[u32; SLOTS]) {
     print_slot(b"broken by a foreign event", tally::CAUSES + 2, dues, mets);
     print_slot(b"broken by the clock", tally::CAUSES + 3, dues, mets);
     print_slot(b"books written back", tally::WRITTEN, dues, mets);
+    print_slot(b"rounds played", tally::PLAYED, dues, mets);
+    print_slot(b"refusal 17", tally::NO_RULE, dues, mets);
+    print_slot(b"refusal 18", tally::TOO_LONG, dues, mets);
 }

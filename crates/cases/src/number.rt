@@ -12,6 +12,10 @@ pub fn four(a: u8, b: u8, c: u8, d: u8) -> u32 {
     two(a, b) | two(c, d) << 16
 }
 
+pub fn eight(low: u32, high: u32) -> u64 {
+    (low as u64) | (high as u64) << 32
+}
+
 pub fn length(low: u8, high: u8) -> usize {
     two(low, high) as usize
 }

@@ -1,5 +1,5 @@
 // Counts of cases in slots: all of them, the answers 0 to 3, the refusals 0 to 15, what a break came
-// by, 0 to 3, and the books written back.
+// by, 0 to 3, the books written back, and the plays: rounds, refusals 17 and refusals 18.
 
 pub const ALL: usize = 0;
 
@@ -11,7 +11,13 @@ pub const CAUSES: usize = 21;
 
 pub const WRITTEN: usize = 25;
 
-pub const SLOTS: usize = 26;
+pub const PLAYED: usize = 26;
+
+pub const NO_RULE: usize = 27;
+
+pub const TOO_LONG: usize = 28;
+
+pub const SLOTS: usize = 29;
 
 fn wide(b: u8) -> usize {
     b as usize

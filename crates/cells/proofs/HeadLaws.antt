@@ -1,6 +1,6 @@
 -- A rule's head: what it holds is read off the number of a well-formed rule.
 -- Assumes nothing.
-use mathlib.Core.Path.{_≡_, sym}
+use mathlib.Core.Path.{_≡_, sym, _∙_, ap}
 use mathlib.Core.List.{List, [], _∷_, _++_}
 use Prim.Native.Nat.{_+_, _<_}
 use native.Mathlib.Omega.{arith}
@@ -11,7 +11,7 @@ use Rattle.layout.specs.Layout.{headerOf, kindNumber, inQ, triggerOf, timeOf}
 use Rattle.layout.specs.Reading.{byKind}
 use Rattle.layout.specs.Pages.{headerWord}
 use Rattle.layout.proofs.PageLaws.{round-few}
-use Rattle.tables.specs.Words.{roundIn}
+use Rattle.tables.specs.Words.{countPIn, roundIn}
 use Rattle.tables.proofs.Bounds.{cap-of}
 use Rattle.cells.specs.Heads.{LooksHead}
 
@@ -42,3 +42,7 @@ looks-head r w = let s = small (r .kind) (r .p) w in record { kind = omega arith
 pub head-round : (r : Rule) → WellFormed r → roundIn (headerWord (headerOf r)) ≡ length (roundOf r)
 unfolding roundIn
 head-round r w = let h = looks-head r w in rw (h .countP, h .kind, h .countQ, round-length (r .kind) (r .p)) (cap-of 16 (length (roundOf r)) (round-few r w))
+
+-- a well-formed rule's head is not 0: P has a fragment
+pub some-head : (r : Rule) → WellFormed r → headerWord (headerOf r) ≡ 0 → ⊥
+some-head r w e = let z : 0 ≡ length (r .p) = ap countPIn (sym e) ∙ looks-head r w .countP in omega (arith, z, w .p .count)

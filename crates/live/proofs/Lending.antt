@@ -1,15 +1,19 @@
 -- A live session: opening, and demand 3 for the calls one after the other, `live-agreement`. The calls are a run of the monitor part's, whose answers are told as numbers.
 -- Assumes nothing.
 use mathlib.Core.Path.{_≡_, refl, sym, _∙_, ap, ap₂, subst}
+use mathlib.Core.Option.{Option}
 use mathlib.Core.List.{List, [], _∷_, map, map-map}
-use Prim.Native.Nat.{ℕ, _%_}
+use Prim.Native.Nat.{ℕ, _%_, _≤_, _<_}
 use native.Mathlib.Omega.{arith}
+use lib.ListN.{length}
 use denote.Enum.Declared.{tagOf}
 use Rattle.pattern.specs.Judge.{nothing, judgeAnswers}
 use Rattle.pattern.specs.Values.{refusedValues, answerValues}
 use Rattle.layout.specs.Terms.{today}
 use Rattle.layout.specs.Layout.{Sheet, WellFormedSheet, Bytes}
 use Rattle.layout.specs.Reading.{Outcome, accepted, refused, readSheet}
+use Rattle.layout.specs.Pages.{ruleAt}
+use Rattle.layout.proofs.Accepted.{rules-formed}
 use Rattle.layout.proofs.Acceptance.{Accepts, accepted-is-encoded}
 use Rattle.sheet.specs.declared.Answer.the-variants.{Refused}
 use Rattle.sheet.proofs.Answer.{the-type}
@@ -19,7 +23,8 @@ use Rattle.book.specs.declared.Translation.{Translation}
 use Rattle.book.specs.Books.{Translates, bookOf}
 use Rattle.book.proofs.Lookups.{looks}
 use Rattle.book.proofs.Translated.{answered}
-use Rattle.monitor.specs.Promise.{seen, valuesOf, inMemory, Observes, Freshes, Run, done, more}
+use Rattle.words.specs.Words.{heldBy}
+use Rattle.monitor.specs.Promise.{seen, valuesOf, verdictIn, inMemory, Observes, Freshes, Run, done, more}
 use Rattle.monitor.proofs.Agreement.{agrees-from}
 use Rattle.answers.specs.declared.Answer.{Answer}
 use Rattle.answers.specs.declared.Answer.the-variants.{Whole, Open, Broken}
@@ -27,7 +32,11 @@ use Rattle.answers.specs.declared.Answer.the-variants as N
 use Rattle.answers.specs.declared.Observation.{Observation}
 use Rattle.replies.specs.Replies.{wordOf}
 use Rattle.sheet_writer.proofs.Writing.{short, long, same-bytes}
-use Rattle.live.specs.Live.{Arrays, OpensBy, Opens, Notes, Live, none, call, LiveAgreement, numberOf, Stores, StoredBack}
+use Rattle.rule_player.specs.Choice.{chosen}
+use Rattle.rule_player.specs.Rounds.{fed, Spares}
+use Rattle.rule_player.specs.Playing.{Playing, playingOf}
+use Rattle.rule_player.proofs.Sentences.{judged-keeps}
+use Rattle.live.specs.Live.{Arrays, OpensBy, Opens, Notes, Live, none, call, LiveAgreement, numberOf, Stores, StoredBack, PlaysInto, PlaysChosen}
 
 -- ---- opening
 
@@ -122,3 +131,24 @@ opened-writes-back sheet bytes lent opened r opens S is before after n stores =
           let a : OpensBy (accepted S) before′ after′ = subst (λ (x : Outcome). OpensBy x before′ after′) is (v .opens) in
           (v .answers ∙ rw is refl, a .0 ∙ sym (o .0));
     }
+
+-- ---- playing
+
+-- for every accepted sheet and the arrays that opening left: the number and the output are those of the round that the choice bytes pick
+pub opened-plays : (sheet : List ℕ) → Bytes sheet → (lent opened : Arrays) (r : ℕ) → Opens sheet lent r opened → (S : Sheet) → readSheet sheet ≡ accepted S
+    → (rule time : ℕ) (choice before after : List ℕ) (n : ℕ) → PlaysInto (opened .table) rule time choice before n after → PlaysChosen (S .rules) rule time choice before n after
+opened-plays sheet bytes lent opened r opens S is rule time choice before after n p =
+    let formed = accepted-is-encoded sheet bytes is .formed in
+    let o : OpensBy (accepted S) lent opened = subst (λ (x : Outcome). OpensBy x lent opened) is (opens .opens) in
+    let e = p .plays .call ∙ ap (λ (names : Option (List ℕ)). playingOf names time before) (p .plays .own S (bookOf S) formed (looks S formed) (sym (o .0))) in
+    record { answers = p .number ∙ ap (λ (x : Playing). numberOf (x .answer)) e; output = ap (λ (x : Playing). x .output) e }
+
+-- a session from the monitor that opening left, in which every observation is of a round that was played: the verdict has nothing to say of its rule
+pub session-keeps-the-rule : (sheet : List ℕ) → Bytes sheet → (before after : Arrays) (r : ℕ) → Opens sheet before r after → (S : Sheet) → readSheet sheet ≡ accepted S
+    → (rule : ℕ) → rule < length (S .rules) → (time : ℕ) (choice : List ℕ) → length (chosen (ruleAt (S .rules) rule) choice) ≤ 4294967295
+    → (os : List Observation) (rs last : List ℕ) → map seen os ≡ fed time (chosen (ruleAt (S .rules) rule) choice) → Live (after .table) (after .monitor) os rs last → Spares rule (verdictIn (heldBy last))
+session-keeps-the-rule sheet bytes before after r opens S is rule here time choice few os rs last e live =
+    let formed = accepted-is-encoded sheet bytes is .formed in
+    let a = live-agreement sheet bytes before after r opens S is os rs last live in
+    let (oracle, right) = a .judged in
+    rw (a .agrees oracle right .verdict, e) (judged-keeps (S .rules) (rules-formed S formed) rule here time choice few oracle right)

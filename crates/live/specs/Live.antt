@@ -5,6 +5,7 @@ use mathlib.Core.Path.{_≡_}
 use mathlib.Core.List.{List, [], _∷_, _++_, map}
 use Prim.Native.Nat.{ℕ, _-_, _^_, _≤_, _<_}
 use lib.ListN.{length, take, drop}
+use Rattle.pattern.specs.Meaning.{Rule}
 use Rattle.pattern.specs.Judge.{Oracle, Right, nothing, judgeAnswers, judgeKeeps}
 use Rattle.pattern.specs.Judge as J
 use Rattle.pattern.specs.Values.{verdictValues, answerValues}
@@ -17,13 +18,16 @@ use Rattle.answers.specs.declared.Observation.{Observation}
 use Rattle.answers.specs.declared.Answer.{Answer}
 use Rattle.replies.specs.Replies.{wordOf}
 use Rattle.sheet_writer.specs.declared.Written.{Written}
-use Rattle.sheet_writer.specs.Writing.{written, answerOf, Writes}
-use Rattle.sheet_writer.specs.Writing as W
+use Rattle.sheet_writer.specs.Writing.{answerOf, Writes}
+use Rattle.store.specs.Answers as S
+use Rattle.rule_player.specs.declared.Played.{Played}
+use Rattle.rule_player.specs.Playing.{playingOf, chosenOf, Plays}
+use Rattle.rule_player.specs.Playing as P
 use Rattle.monitor.specs.Promise.{seen, valuesOf, verdictIn, inMemory, Observes, Freshes}
 
 -- it rises with each call that is added or changed, as opening is by the sheets that it reads, and with the memory that a host lends
 abbrev pub libraryVersion : ℕ
-libraryVersion = 6
+libraryVersion = 7
 
 -- ---- opening: the two arrays that a host lends
 
@@ -68,11 +72,11 @@ pub record LiveAgreement (S : Sheet) (os : List Observation) (rs last : List ℕ
   pub judged : (oracle : Oracle) × Right (S .rules) oracle
   pub agrees : (oracle : Oracle) → Right (S .rules) oracle → LiveAgrees os rs last oracle
 
--- ---- writing: the number of bytes, or a refusal as its number below 0, in 64 bits
+-- ---- writing: so many bytes, or so many records; or a refusal as its number below 0, in 64 bits
 
-abbrev pub numberOf : W.Answer → ℕ
-numberOf (written n) = n
-numberOf (W.refused number) = 2 ^ 64 - number
+abbrev pub numberOf : S.Answer → ℕ
+numberOf (S.written n) = n
+numberOf (S.refused number) = 2 ^ 64 - number
 
 -- the number of an answer such as the writer promises
 pub record Stores (table before : List ℕ) (r : ℕ) (after : List ℕ) : Type 0 where
@@ -86,3 +90,15 @@ pub record StoredBack (sheet : List ℕ) (opened : Arrays) (before : List ℕ) (
   pub short : length before < length sheet → (r ≡ 2 ^ 64 - 16) × (after ≡ before)
   -- the bytes are opened into the same table, whatever arrays are lent
   pub again : length sheet ≤ length before → (lent now : Arrays) (answer : ℕ) → Opens (take (length sheet) after) lent answer now → (answer ≡ 0) × (now .table ≡ opened .table)
+
+-- ---- playing: the number of an answer such as the player promises
+
+pub record PlaysInto (table : List ℕ) (rule time : ℕ) (choice before : List ℕ) (r : ℕ) (after : List ℕ) : Type 0 where
+  pub answer : Played
+  pub number : r ≡ numberOf (P.answerOf answer)
+  pub plays : Plays table rule time choice before answer after
+
+-- the call with a sheet's opened book: the number and the output of the round that the choice bytes pick, or of 17 or 18
+pub record PlaysChosen (rules : List Rule) (rule time : ℕ) (choice before : List ℕ) (r : ℕ) (after : List ℕ) : Type 0 where
+  pub answers : r ≡ numberOf (playingOf (chosenOf rules rule choice) time before .answer)
+  pub output : after ≡ playingOf (chosenOf rules rule choice) time before .output

@@ -6,8 +6,10 @@ ghost use Rattle.layout.specs.Terms.{today};
 ghost use Rattle.words.specs.Words.{heldBy};
 ghost use Rattle.answers.specs.declared.Observation.the-variants.{Event, Clock};
 ghost use Rattle.monitor.specs.Promise.{inMemory, Freshes};
-ghost use Rattle.sheet_writer.specs.Writing.{answerOf};
-ghost use Rattle.live.specs.Live.{libraryVersion, Opens, Notes, verdictIs, numberOf, Stores};
+ghost use Rattle.sheet_writer.specs.Writing as writing;
+ghost use Rattle.rule_player.specs.Playing as playing;
+ghost use Rattle.live.specs.Live.{libraryVersion, Opens, Notes, verdictIs, numberOf, Stores, PlaysInto};
+use rule_player::Played;
 use sheet_writer::Written;
 use tables::Table;
 use words::Memory;
@@ -82,7 +84,7 @@ pub extern "C" fn guard4_taken(monitor: &Memory) -> u32
 
 // The answer of the writer as one number.
 fn written_word(w: Written) -> u64
-    ensures { λ r. ⌜ r ≡ numberOf (answerOf w) ⌝ }
+    ensures { λ r. ⌜ r ≡ numberOf (writing.answerOf w) ⌝ }
 {
     match w {
         Written::Bytes(n) => n as u64,
@@ -99,9 +101,37 @@ pub extern "C" fn guard4_write(book: &Table, buffer: &mut [u8]) -> u64
     written_word(w)
 }
 
+// ---- playing
+
+// The answer of the player as one number.
+fn played_word(p: Played) -> u64
+    ensures { λ r. ⌜ r ≡ numberOf (playing.answerOf p) ⌝ }
+{
+    match p {
+        Played::Records(n) => n as u64,
+        Played::NoRule => 0xFFFF_FFFF_FFFF_FFEF,
+        Played::TooLong => 0xFFFF_FFFF_FFFF_FFEE,
+    }
+}
+
+// Writes a round of a rule into the output, all at one time, as the choice bytes pick it: the number of records, or minus 17 or minus 18 in 64 bits and nothing is written.
+#[no_mangle]
+pub extern "C" fn guard4_play(
+    book: &Table,
+    rule: u32,
+    time: u32,
+    choice: &[u8],
+    out: &mut [u8],
+) -> u64
+    ensures { λ r. ⌜ PlaysInto (now (book .entry)) rule time (now (choice .entry)) (now (out .entry)) r (now (out .exit)) ⌝ }
+{
+    let p = rule_player::play(book, rule, time, choice, out);
+    played_word(p)
+}
+
 // ---- versions
 
-const LIBRARY: u32 = 6;
+const LIBRARY: u32 = 7;
 
 const NEWEST_SHEET: u32 = 2;
 

@@ -19,7 +19,7 @@ use Rattle.pattern.proofs.Block.{fewer, Unique, Asks, AskedOf, match→
 
 -- ---- lists of events
 
-names-append : (a b : List Event) → names (a ++ b) ≡ names a ++ names b
+pub names-append : (a b : List Event) → names (a ++ b) ≡ names a ++ names b
 names-append [] b = refl
 names-append (e ∷ a) b = ap (λ (l : List ℕ). e .name ∷ l) (names-append a b)
 

@@ -71,7 +71,7 @@ planOf c = record {
 
 -- ---- the trigger's fragment matches one event on its name
 
-trigger→ : (i : ℕ) (e : Event) → e .name ≡ i → MatchesOrdering (fragments (trigger i ∷ [])) (e ∷ [])
+pub trigger→ : (i : ℕ) (e : Event) → e .name ≡ i → MatchesOrdering (fragments (trigger i ∷ [])) (e ∷ [])
 trigger→ i e q = (
   e ∷ [],
   [],
@@ -80,7 +80,7 @@ trigger→ i e q = (
   refl,
 )
 
-trigger← : (i : ℕ) (w : List Event) → MatchesOrdering (fragments (trigger i ∷ [])) w → (e : Event) × (w ≡ e ∷ []) × (e .name ≡ i)
+pub trigger← : (i : ℕ) (w : List Event) → MatchesOrdering (fragments (trigger i ∷ [])) w → (e : Event) × (w ≡ e ∷ []) × (e .name ≡ i)
 trigger← i w (a, b, e, m, z) = look a (e ∙ ap (λ (l : List Event). a ++ l) z ∙ append-nil a) (match→ (trigger i) (names a) m)
   where
     named : (m : ℕ) → T (X .has (trigger i) m) → m ≡ i

@@ -49,14 +49,14 @@ fn select(holds: bool, yes: u8, no: u8) -> u8
 // ---- the four conditions of the moves
 
 // A range that has not begun may be left out of a fragment of this join: "0 all, 1 any", "2 all shuffled and 3 any shuffled".
-fn may_be_left_out(join: u8) -> bool
+pub fn may_be_left_out(join: u8) -> bool
     ensures { λ r. ⌜ r ≡ mayBeLeftOut (joinOf join) ⌝ }
 {
     join % 2 == 1
 }
 
 // Its blocks need not be in a row.
-fn is_shuffled(join: u8) -> bool
+pub fn is_shuffled(join: u8) -> bool
     ensures { λ r. ⌜ r ≡ shuffled (joinOf join) ⌝ }
 {
     join / 2 % 2 == 1

@@ -1,5 +1,5 @@
 -- How long each part of a table's bytes is: a range has 5 bytes, a fragment 2 and its ranges, a rule 8 and its fragments, the whole 14 and its rules. No table says more than `mostBytes`.
--- With them the counts, and the name that the code reads at a place.
+-- With them the counts.
 -- Assumes nothing.
 use mathlib.Core.Path.{_≡_, refl}
 use mathlib.Core.Bool.{Bool, true, false}
@@ -11,10 +11,11 @@ use native.Mathlib.Omega.{arith}
 use lib.Dec.{ltb, eqb}
 use lib.ListN.{length, getD, length-append}
 use borrow.Author.Tests.{ltb-true, ltb-false}
-use Rattle.tables.specs.Cells.{lessIn, headAt, nameAt}
+use Rattle.tables.specs.Cells.{lessIn, headAt}
 use Rattle.tables.proofs.Bounds.{cap-small}
-use Rattle.tables.proofs.Names.{first-few, name-few}
-use Rattle.sheet_writer.specs.Parts.{upTo, cellOf, rangePart, fragmentPart, fragmentsIn, fragmentCount, rulePart, ruleCount, headerPart, tableBytes, mostBytes, Named}
+use Rattle.tables.proofs.Names.{first-few}
+use Rattle.places.specs.Places.{cellOf}
+use Rattle.sheet_writer.specs.Parts.{upTo, rangePart, fragmentPart, fragmentsIn, fragmentCount, rulePart, ruleCount, headerPart, tableBytes, mostBytes}
 
 -- ---- parts, one after the other
 
@@ -47,15 +48,6 @@ fragments-few head = cap-small 16 (fragmentsIn head)
 pub rules-few : (table : List ℕ) → ruleCount table ≤ 16
 unfolding ruleCount
 rules-few table = first-few (λ r. eqb (getD table (headAt r) 0) 0) 0 16
-
--- ---- the name at a place
-
-module _ (table names : List ℕ) (r f i : ℕ) (at : Named table names × (r < 16) × (f < 16) × (i < 8)) where
-  pub name-read : getD names (128 * r + 8 * f + i) 0 ≡ nameAt table r f i
-  name-read = let (named, hr, hf, hi) = at in named r f i hr hf hi
-
-  pub read-few : getD names (128 * r + 8 * f + i) 0 ≤ 64
-  read-few = rw name-read (name-few table r f i)
 
 -- ---- the parts
 

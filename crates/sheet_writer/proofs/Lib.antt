@@ -1,4 +1,3 @@
-pub mod Naming
 pub mod Lengths
 pub mod Putting
 pub mod Own

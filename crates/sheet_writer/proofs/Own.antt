@@ -17,13 +17,15 @@ use Rattle.layout.specs.Pages.{headerWord, noRange, noRule, ruleAt, rangeAt}
 use Rattle.layout.proofs.PageLaws.{round-formed, round-few, each-at}
 use Rattle.layout.proofs.Accepted.{rule-formed}
 use Rattle.tables.specs.Words.{kindIn, countPIn, countQIn, triggerIn, timeIn}
-use Rattle.tables.specs.Cells.{lessIn, headAt, Cell}
+use Rattle.tables.specs.Cells.{lessIn, headAt}
 use Rattle.tables.proofs.Bounds.{cap-of}
 use Rattle.tables.proofs.Names.{first-at, name-at}
-use Rattle.cells.proofs.HeadLaws.{looks-head}
+use Rattle.cells.proofs.HeadLaws.{looks-head, some-head}
 use Rattle.book.specs.declared.Book.{Book}
 use Rattle.book.specs.Looks.{Looks}
-use Rattle.sheet_writer.specs.Parts.{upTo, cellOf, rangeIn, rangePart, fragmentPart, fragmentCount, rulePart, ruleCount, headerPart, tableBytes}
+use Rattle.places.specs.Places.{cellOf}
+use Rattle.places.proofs.Reading.{cell-at}
+use Rattle.sheet_writer.specs.Parts.{upTo, rangeIn, rangePart, fragmentPart, fragmentCount, rulePart, ruleCount, headerPart, tableBytes}
 
 -- ---- one part after the other
 
@@ -65,10 +67,6 @@ no-more (once t) p = omega (arith, length-append p [], length-append p (lastFrag
 no-more (repeated t) p = omega (arith, length-append p [], length-append p (lastFragments (repeated t)))
 no-more (timed q t) p = omega arith
 
--- a well-formed rule's head is not 0: P has a fragment
-some-head : (r : Rule) → WellFormed r → headerWord (headerOf r) ≡ 0 → ⊥
-some-head r w e = let z : 0 ≡ length (r .p) = ap countPIn (sym e) ∙ looks-head r w .countP in omega (arith, z, w .p .count)
-
 module _ (S : Sheet) (b : Book) (formed : WellFormedSheet S) (looks : Looks S b) where
   abbrev table : List ℕ
   table = b .table
@@ -81,13 +79,10 @@ module _ (S : Sheet) (b : Book) (formed : WellFormedSheet S) (looks : Looks S b)
     well = rule-formed S formed r here
 
     module _ (f : ℕ) (inside : f < length (roundOf rule)) where
-      cell-at : (i : ℕ) → i < length (fragmentAt rule f .ranges) → Cell rule f i (cellOf table r f i)
-      cell-at i within = rw (name-at (looks .table) r here well f i inside within) (looks .table .rule r here .cell f i inside within)
-
       range-own : (i : ℕ) → i < length (fragmentAt rule f .ranges) → rangePart table r f i ≡ rangeBytes (rangeAt rule f i)
       unfolding rangePart
       range-own i within =
-          let c = cell-at i within in
+          let c = cell-at (looks .table) r here well f i inside within in
           let e : rangeIn _ _ ≡ rangeAt rule f i = λ k. record { name = name-at (looks .table) r here well f i inside within k; u = c .u k; v = c .v k } in
           ap rangeBytes e
 
@@ -97,7 +92,7 @@ module _ (S : Sheet) (b : Book) (formed : WellFormedSheet S) (looks : Looks S b)
       fragment-own : fragmentPart table r f ≡ fragmentBytes (fragmentAt rule f)
       unfolding fragmentPart
       fragment-own =
-          let c = cell-at 0 some in
+          let c = cell-at (looks .table) r here well f 0 inside some in
           let e : upTo (rangePart table r f) (suc (lessIn (cellOf table r f 0))) ≡ each rangeBytes (fragmentAt rule f .ranges)
           = ap (upTo (rangePart table r f)) (c .less) ∙ parts rangeBytes noRange (rangePart table r f) (fragmentAt rule f .ranges) range-own in
           λ k. le 1 (c .join k) ++ (le 1 (c .less k) ++ e k)

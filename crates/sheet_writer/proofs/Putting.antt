@@ -8,8 +8,10 @@ use lib.ListN.{length, getD, length-append}
 use lib.Seq.{sets, length-sets}
 use Rattle.layout.specs.Layout.{rangeBytes}
 use Rattle.store.proofs.Stores.{sets-append}
-use Rattle.sheet_writer.specs.Parts.{upTo, cellOf, rangeIn, rangePart, Named}
-use Rattle.sheet_writer.proofs.Lengths.{room-of, name-read}
+use Rattle.places.specs.Places.{cellOf, Named}
+use Rattle.places.proofs.Reading.{name-read}
+use Rattle.sheet_writer.specs.Parts.{upTo, rangeIn, rangePart}
+use Rattle.sheet_writer.proofs.Lengths.{room-of}
 
 -- `out` is `l` with the first k parts from `at` on, and they end at `end`
 pub record Puts (g : ℕ → List ℕ) (l : List ℕ) (at k : ℕ) (out : List ℕ) (end : ℕ) : Type 0 where

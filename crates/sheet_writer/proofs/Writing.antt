@@ -21,7 +21,8 @@ use Rattle.sheet_writer.specs.declared.Written.{Written}
 use Rattle.sheet_writer.specs.declared.Written.the-variants.{TooShort}
 use Rattle.sheet_writer.specs.declared.Written.the-variants as W
 use Rattle.sheet_writer.specs.Parts.{tableBytes}
-use Rattle.sheet_writer.specs.Writing.{written, refused, answerOf, Writing, writingOf, Writes, WritesBack}
+use Rattle.store.specs.Answers.{written, refused}
+use Rattle.sheet_writer.specs.Writing.{answerOf, Writing, writingOf, Writes, WritesBack}
 use Rattle.sheet_writer.proofs.Lengths.{table-most}
 use Rattle.sheet_writer.proofs.Own.{own-bytes}
 

@@ -1,15 +1,14 @@
 -- The bytes that a table says, whatever the table: each part of a sheet as it is looked up, by its place. For the table of a sheet's book they are the sheet's own (`own-bytes`).
 -- Assumes nothing.
-use mathlib.Core.Path.{_≡_}
-use mathlib.Core.Bool.{cond}
 use mathlib.Core.List.{List, [], _++_}
-use Prim.Native.Nat.{ℕ, zero, suc, _+_, _*_, _<_}
+use Prim.Native.Nat.{ℕ, zero, suc, _+_}
 use lib.Dec.{eqb}
-use lib.ListN.{length, getD}
+use lib.ListN.{getD}
 use Rattle.pattern.specs.Meaning.{Range}
 use Rattle.layout.specs.Layout.{le, rangeBytes, mark}
 use Rattle.tables.specs.Words.{cap, countPIn, countQIn}
-use Rattle.tables.specs.Cells.{lessIn, joinOfCell, leastIn, mostIn, headAt, cellAt, versionAt, outputsAt, firstFrom, standsAt, nameAt}
+use Rattle.tables.specs.Cells.{lessIn, joinOfCell, leastIn, mostIn, headAt, versionAt, outputsAt, firstFrom, nameAt}
+use Rattle.places.specs.Places.{cellOf}
 
 -- what g says of each number below n, one after the other
 abbrev pub upTo : (ℕ → List ℕ) → ℕ → List ℕ
@@ -34,10 +33,6 @@ abbrev pub mostField : ℕ → ℕ
 mostField cell = mostIn cell
 
 -- ---- a place: range i of fragment f of rule r
-
--- the cell of the name that stands there; where none does, some word of the table
-abbrev pub cellOf : List ℕ → ℕ → ℕ → ℕ → ℕ
-cellOf table r f i = getD table (cellAt r (nameAt table r f i)) 0
 
 -- the range of a name with this cell
 abbrev pub rangeIn : ℕ → ℕ → Range
@@ -78,21 +73,3 @@ tableBytes table = headerPart table ++ upTo (rulePart table) (ruleCount table)
 -- no table says more bytes: 14, and 16 rules of 8 with 16 fragments of 2 with 8 ranges of 5
 abbrev pub mostBytes : ℕ
 mostBytes = 10894
-
--- ---- the names by their places
-
-abbrev pub placeAt : ℕ → ℕ → ℕ → ℕ
-placeAt r f i = 128 * r + 8 * f + i
-
--- so many places: 16 rules, of 16 fragments, of 8 ranges
-abbrev pub placeCount : ℕ
-placeCount = 2048
-
--- name n was put where it stands; every other place is as it was
-pub record Placed (table : List ℕ) (n : ℕ) (before after : List ℕ) : Type 0 where
-  pub size : length after ≡ placeCount
-  pub place : (r f i : ℕ) → r < 16 → f < 16 → i < 8 → getD after (placeAt r f i) 0 ≡ cond (standsAt table r f i n) n (getD before (placeAt r f i) 0)
-
--- every place has its name
-abbrev pub Named : List ℕ → List ℕ → Type 0
-Named table names = (r f i : ℕ) → r < 16 → f < 16 → i < 8 → getD names (placeAt r f i) 0 ≡ nameAt table r f i

@@ -12,19 +12,14 @@ use Rattle.book.specs.Books.{Translates}
 use Rattle.book.specs.Looks.{Looks}
 use Rattle.book.specs.declared.Book.{Book}
 use Rattle.book.specs.declared.Translation.{Translation}
+use Rattle.store.specs.Answers.{Answer, written, refused}
 use Rattle.sheet_writer.specs.declared.Written.{Written}
 use Rattle.sheet_writer.specs.declared.Written.the-variants.{Bytes, TooShort}
 use Rattle.sheet_writer.specs.Parts.{mostBytes}
 
 -- ---- what a call answers
 
-pub data Answer : Type 0 where
-  -- "The answer is the number of bytes written"
-  written : ℕ → Answer
-  -- "Turned away: 16, buffer shorter than the sheet"
-  refused : ℕ → Answer
-
--- document 02's number for each case of the code's answer
+-- "The answer is the number of bytes written"; "Turned away: 16, buffer shorter than the sheet": document 02's number for each case of the code's answer
 abbrev pub answerOf : Written → Answer
 answerOf (Bytes n) = written n
 answerOf TooShort = refused 16

@@ -6,42 +6,11 @@ ghost use Prim.Native.Nat.{_+_, _≤_, _<_};
 ghost use lib.ListN.{length};
 ghost use lib.Seq.{sets};
 ghost use Rattle.layout.specs.Layout.{le, rangeBytes, mark};
-ghost use Rattle.sheet_writer.specs.Parts.{versionField, outputsField, joinField, leastField, mostField, cellOf, rangeIn, fragmentPart, fragmentsIn, fragmentCount, rulePart, ruleCount, headerPart, tableBytes, placeCount, Placed, Named};
+ghost use Rattle.places.specs.Places.{Named};
+ghost use Rattle.sheet_writer.specs.Parts.{versionField, outputsField, joinField, leastField, mostField, rangeIn, fragmentPart, fragmentsIn, fragmentCount, rulePart, ruleCount, headerPart, tableBytes};
 ghost use Rattle.sheet_writer.specs.Writing.{Writes};
+use places::Places;
 use tables::Table;
-
-// ---- the names by their places: range i of fragment f of rule r at 128 r + 8 f + i; 64 where no name stands
-
-type Places = [u8; 2048];
-
-// Puts name n at its place in each rule that holds it.
-fn place(names: &mut Places, table: &Table, n: usize)
-    requires { ⌜ (n < 64) × (length (now names) ≡ placeCount) ⌝ }
-    ensures { λ _. ⌜ Placed (now (table .entry)) n (now (names .entry)) (now (names .exit)) ⌝ }
-{
-    let mut todo = tables::mask_in(table[n]);
-    while 0 < todo {
-        let r = masks::lowest(todo);
-        todo = masks::rest(todo);
-        let cell = table[tables::CELLS + tables::NAMES * r + n];
-        let f = tables::fragment_in(cell) as usize;
-        let i = tables::index_in(cell) as usize;
-        names[128 * r + 8 * f + i] = n as u8;
-    }
-}
-
-// From the last name to the first, so that the lowest of those that stand at one place is the one that stays.
-fn places(table: &Table) -> Places
-    ensures { λ names. ⌜ Named (now (table .entry)) names ⌝ }
-{
-    let mut names = [64u8; 2048];
-    let mut n = tables::NAMES;
-    while 0 < n {
-        n = n - 1;
-        place(&mut names, table, n);
-    }
-    names
-}
 
 // ---- each field, as it is looked up: in the table, or in the cell of a name
 
@@ -76,15 +45,6 @@ fn most_field(cell: u64) -> u64
 }
 
 // ---- what is at a place
-
-// The cell of the name at a place.
-fn cell_of<'a>(table: &'a Table, names: &'a Places, r: usize, f: usize, i: usize) -> u64
-    requires { ⌜ Named (now table) (now names) × (r < 16) × (f < 16) × (i < 8) ⌝ }
-    ensures { λ cell. ⌜ cell ≡ cellOf (now (table .entry)) r f i ⌝ }
-{
-    let n = names[128 * r + 8 * f + i] as usize;
-    table[tables::CELLS + tables::NAMES * r + n]
-}
 
 fn rule_count(table: &Table) -> usize
     ensures { λ n. ⌜ n ≡ ruleCount (now (table .entry)) ⌝ }
@@ -123,7 +83,7 @@ fn rule_size<'a>(table: &'a Table, names: &'a Places, r: usize) -> usize
     let mut size = 8usize;
     let mut f = 0usize;
     while f < count {
-        size = size + 7 + 5 * (tables::less_in(cell_of(table, names, r, f, 0)) as usize);
+        size = size + 7 + 5 * (tables::less_in(places::cell_of(table, names, r, f, 0)) as usize);
         f = f + 1;
     }
     size
@@ -165,14 +125,14 @@ fn put_fragment<'a>(
     requires { ⌜ Named (now table) (now names) × (r < 16) × (f < 16) × (at + length (fragmentPart (now table) r f) ≤ length (now buffer)) ⌝ }
     ensures { λ end. ⌜ (end ≡ at + length (fragmentPart (now (table .entry)) r f)) × (now (buffer .exit) ≡ sets (now (buffer .entry)) at (fragmentPart (now (table .entry)) r f)) ⌝ }
 {
-    let first = cell_of(table, names, r, f, 0);
+    let first = places::cell_of(table, names, r, f, 0);
     let count = (tables::less_in(first) as usize) + 1;
     store::put(buffer, at, 1, join_field(first));
     store::put(buffer, at + 1, 1, count as u64);
     let mut i = 0usize;
     while i < count {
         let name = names[128 * r + 8 * f + i];
-        let cell = cell_of(table, names, r, f, i);
+        let cell = places::cell_of(table, names, r, f, i);
         put_range(buffer, at + 2 + 5 * i, name, cell);
         i = i + 1;
     }
@@ -246,7 +206,7 @@ pub enum Written {
 pub fn write(table: &Table, buffer: &mut [u8]) -> Written
     ensures { λ r. ⌜ Writes (now (table .entry)) (now (buffer .entry)) r (now (buffer .exit)) ⌝ }
 {
-    let names = places(table);
+    let names = places::places(table);
     let count = rule_count(table);
     let bytes = size(table, &names, count);
     if buffer.len() < bytes {

@@ -38,6 +38,21 @@ first-few p at (suc n) = go (p at) (first-few p (suc at) n)
     go true next = omega arith
     go false next = omega arith
 
+-- the first number that passes does, and none before it
+pub first-passes : (p : ℕ → Bool) (at n : ℕ) → firstFrom p at n < at + n → p (firstFrom p at n) ≡ true
+first-passes p at zero h = absurd (omega arith)
+first-passes p at (suc n) h = elim (true-or-false (p at)) [
+  | inl e ↦ rw e e
+  | inr e ↦ let h′ : firstFrom p (suc at) n < at + suc n = rw e at h in rw e (first-passes p (suc at) n (omega arith))
+]
+
+pub first-before : (p : ℕ → Bool) (at n k : ℕ) → at ≤ k → k < firstFrom p at n → p k ≡ false
+first-before p at zero k l h = absurd (omega arith)
+first-before p at (suc n) k l h = elim (true-or-false (p at)) [
+  | inl e ↦ let h′ : k < at = rw e at h in absurd (omega arith)
+  | inr e ↦ elim (same? at k) [ inl z ↦ rw z at e | inr z ↦ first-before p (suc at) n k (omega arith) (rw e at h) ]
+]
+
 -- every place has a name, or 64
 pub name-few : (table : List ℕ) (r f i : ℕ) → nameAt table r f i ≤ 64
 unfolding nameAt

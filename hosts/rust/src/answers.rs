@@ -65,7 +65,7 @@ impl fmt::Display for Verdict {
     }
 }
 
-/// Why a sheet, an observation, a log or a buffer was refused. Nothing has changed then.
+/// Why a sheet, an observation, a log, a buffer or a round was refused. Nothing has changed then.
 ///
 /// A sheet's `place` is the offset of the first faulty field. An observation's is the refused record's offset in its log, and `None` in a live session.
 ///
@@ -114,6 +114,10 @@ pub enum Refusal {
     OutputShort,
     /// 16: the buffer is shorter than the sheet. Only [`Book::write`](crate::Book::write) can meet it.
     BufferShort,
+    /// 17: the book has no rule of this number. Only [`Book::play`](crate::Book::play) can meet it, and looks for it first.
+    RuleUnknown,
+    /// 18: the chosen round is longer than the output. Only [`Book::play`](crate::Book::play) can meet it.
+    RoundLong,
     /// An answer or a refusal's number that this package doesn't know, as the library gave them: the library is of another version. What has changed isn't known. Take it as a
     /// reason to stop the plugin.
     Unknown { answer: u8, number: u8, place: Option<u32> },
@@ -140,6 +144,8 @@ impl Refusal {
             14 => Refusal::LogLength,
             15 => Refusal::OutputShort,
             16 => Refusal::BufferShort,
+            17 => Refusal::RuleUnknown,
+            18 => Refusal::RoundLong,
             _ => Refusal::Unknown {
                 answer: REFUSED,
                 number,
@@ -193,11 +199,13 @@ impl Refusal {
             LogLength => (14, None, "the log's length is no multiple of 5, or above 4,294,967,295"),
             OutputShort => (15, None, "the output has under 12 bytes"),
             BufferShort => (16, None, "the buffer is shorter than the sheet"),
+            RuleUnknown => (17, None, "the book has no rule of this number"),
+            RoundLong => (18, None, "the chosen round is longer than the output"),
             Unknown { number, place, .. } => (number, place, "the library's answer is not known to this package"),
         }
     }
 
-    /// The number of documents 01 and 02, 1 to 16; for one that isn't known, the library's.
+    /// The number of documents 01 and 02, 1 to 18; for one that isn't known, the library's.
     pub fn number(self) -> u8 {
         self.parts().0
     }
@@ -252,10 +260,10 @@ mod tests {
 
     #[test]
     fn each_number_has_its_refusal_back() {
-        for number in 1..=16 {
+        for number in 1..=18 {
             let refusal = Refusal::of(number, Some(9));
             assert_eq!(refusal.number(), number);
-            let placed = !(13..=16).contains(&number);
+            let placed = !(13..=18).contains(&number);
             assert_eq!(refusal.place(), placed.then_some(9), "{refusal:?}");
             assert!(!refusal.explanation().contains('\n'));
         }
@@ -264,13 +272,13 @@ mod tests {
 
     #[test]
     fn an_unknown_number_is_an_error_that_has_it() {
-        for number in (0..=255).filter(|n| !(1..=16).contains(n)) {
+        for number in (0..=255).filter(|n| !(1..=18).contains(n)) {
             let refusal = Refusal::of(number, Some(9));
             assert_eq!((refusal.answer(), refusal.number(), refusal.place()), (3, number, Some(9)));
             assert_eq!(answer_of(3, number, 1, 9, Some(9)), Err(refusal));
         }
-        let words = "answer 3, refusal 17: the library's answer is not known to this package";
-        assert_eq!(Refusal::of(17, None).to_string(), words);
+        let words = "answer 3, refusal 19: the library's answer is not known to this package";
+        assert_eq!(Refusal::of(19, None).to_string(), words);
     }
 
     #[test]
@@ -290,7 +298,7 @@ mod tests {
             .lines()
             .filter_map(|line| line.strip_prefix("        \"")?.strip_suffix("\","))
             .collect();
-        let ours: Vec<_> = (1..=16)
+        let ours: Vec<_> = (1..=18)
             .map(|number| Refusal::of(number, None).explanation().replace('"', "\\\""))
             .collect();
         assert_eq!(texts, ours);

@@ -13,6 +13,9 @@ pub(crate) const BOOK_WORDS: usize = 1106;
 /// No accepted sheet is longer: `GUARD_SHEET_BYTES` there. A buffer of this length is enough for [`Book::write`](crate::Book::write).
 pub const SHEET_BYTES: usize = 5774;
 
+/// How many bytes a log's record has: `GUARD_RECORD_BYTES` there. A name 0 to 63, or FF for a clock reading; then the time, little-endian.
+pub const RECORD_BYTES: usize = 5;
+
 /// A book's words, as `guard_book` in `include/guard.h` has them.
 pub(crate) type Tables = [u64; BOOK_WORDS];
 
@@ -27,6 +30,7 @@ extern "C" {
     fn guard4_verdict(monitor: *const u8) -> u64;
     fn guard4_taken(monitor: *const u8) -> u32;
     fn guard4_write(book: *const u64, buffer: *mut u8, length: usize) -> u64;
+    fn guard4_play(book: *const u64, rule: u32, time: u32, choice: *const u8, choice_length: usize, out: *mut u8, out_length: usize) -> u64;
 }
 
 /// The version of the library that is linked. This package is of [`LIBRARY_VERSION`](crate::LIBRARY_VERSION).
@@ -89,6 +93,13 @@ pub(crate) fn write(tables: &Tables, buffer: &mut [u8]) -> u64 {
     unsafe { guard4_write(tables.as_ptr(), buffer.as_mut_ptr(), buffer.len()) }
 }
 
+/// Plays a round of a rule: the number of records, or minus 17 or 18 in 64 bits and `out` as it was.
+pub(crate) fn play(tables: &Tables, rule: u32, time: u32, choice: &[u8], out: &mut [u8]) -> u64 {
+    // SAFETY: the book has the length that the call wants, by its type; it and the choice, whose pointer comes with its length, are only read; so does the output's, and it is apart from
+    // both, being borrowed mutably.
+    unsafe { guard4_play(tables.as_ptr(), rule, time, choice.as_ptr(), choice.len(), out.as_mut_ptr(), out.len()) }
+}
+
 #[cfg(test)]
 mod tests {
     use super::*;
@@ -108,6 +119,7 @@ mod tests {
         assert_eq!(defined("GUARD_BOOK_WORDS"), Some(BOOK_WORDS));
         assert_eq!(defined("GUARD_MONITOR_BYTES"), Some(MONITOR_BYTES));
         assert_eq!(defined("GUARD_SHEET_BYTES"), Some(SHEET_BYTES));
+        assert_eq!(defined("GUARD_RECORD_BYTES"), Some(RECORD_BYTES));
     }
 
     /// "15 output under 12 bytes: it is unchanged and the call returns 15"; "Later bytes don't change."
@@ -127,7 +139,7 @@ mod tests {
         }
     }
 
-    /// "For a book that no sheet gives, the result of this and of later calls on it is free": the call returns, and what it writes is inside the buffer.
+    /// "For a book that no sheet gives, the result of this and of later calls on it is free": the calls return, and what they write is inside the buffer and the output.
     #[test]
     fn words_of_no_book() {
         let mut state = 1u64;
@@ -151,6 +163,16 @@ mod tests {
                 usize::try_from(written).unwrap()
             };
             assert!(end <= length && end <= 10894, "{end} of {length}");
+            assert!(memory[..100].iter().chain(&memory[100 + end..]).all(|&b| b == 0x5A));
+            memory.fill(0x5A);
+            let choice = random().to_le_bytes();
+            let played = play(&tables, random() as u32 % 18, 0, &choice, &mut memory[100..100 + length]);
+            let end = if [17, 18].map(u64::wrapping_neg).contains(&played) {
+                0
+            } else {
+                RECORD_BYTES * usize::try_from(played).unwrap()
+            };
+            assert!(end <= length, "{end} of {length}");
             assert!(memory[..100].iter().chain(&memory[100 + end..]).all(|&b| b == 0x5A));
         }
     }

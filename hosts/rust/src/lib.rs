@@ -14,9 +14,9 @@ mod log;
 mod session;
 
 pub use answers::{Refusal, Verdict};
-pub use ffi::{library_version, sheet_version, MonitorBytes, MONITOR_BYTES, SHEET_BYTES};
+pub use ffi::{library_version, sheet_version, MonitorBytes, MONITOR_BYTES, RECORD_BYTES, SHEET_BYTES};
 pub use log::{run, Outcome};
 pub use session::{Book, Session};
 
 /// The library's version that this package is of, as `GUARD_LIBRARY_VERSION` in `include/guard.h`. A library of another memory layout does not link.
-pub const LIBRARY_VERSION: u32 = 6;
+pub const LIBRARY_VERSION: u32 = 7;

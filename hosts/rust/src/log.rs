@@ -97,7 +97,7 @@ mod tests {
     /// A library of another version: its numbers are passed on, as an error.
     #[test]
     fn unknown_numbers_are_errors() {
-        for out in [[3, 17, 5, 0, 2, 0, 0, 0, 10, 0, 0, 0], [4, 0, 5, 0, 2, 0, 0, 0, 10, 0, 0, 0], [255; 12]] {
+        for out in [[3, 19, 5, 0, 2, 0, 0, 0, 10, 0, 0, 0], [4, 0, 5, 0, 2, 0, 0, 0, 10, 0, 0, 0], [255; 12]] {
             let outcome = Outcome::of(&out);
             assert!(matches!(outcome.answer, Err(Refusal::Unknown { .. })));
             let mask = u16::from_le_bytes([out[2], out[3]]).into();
@@ -111,7 +111,7 @@ mod tests {
         let returned = |number| Outcome::returned(number, &[0; 12]).answer;
         assert_eq!(returned(0), Ok(Verdict::Whole));
         assert_eq!(returned(15), Err(Refusal::OutputShort));
-        for (number, passed) in [(17, 17), (255, 255), (256, 255), (271, 255), (u32::MAX, 255)] {
+        for (number, passed) in [(19, 19), (255, 255), (256, 255), (271, 255), (u32::MAX, 255)] {
             assert!(matches!(returned(number), Err(Refusal::Unknown { number, .. }) if number == passed));
         }
     }

@@ -1,10 +1,11 @@
 //! A book, and live sessions under it.
 
 use crate::answers::{answer_of, Refusal, Verdict};
-use crate::ffi::{self, MonitorBytes, Tables, BOOK_WORDS, MONITOR_BYTES};
+use crate::ffi::{self, MonitorBytes, Tables, BOOK_WORDS, MONITOR_BYTES, RECORD_BYTES};
 use alloc::boxed::Box;
 use core::borrow::Borrow;
 use core::fmt;
+use core::ops::RangeInclusive;
 
 /// A translated sheet. Any number of sessions can go on under one book, in any threads.
 #[derive(Clone)]
@@ -52,7 +53,38 @@ impl Book {
     /// ```
     pub fn write(&self, buffer: &mut [u8]) -> Result<usize, Refusal> {
         let length = buffer.len();
-        written(ffi::write(&self.tables, buffer), length)
+        counted(ffi::write(&self.tables, buffer), length, 16..=16)
+    }
+
+    /// Plays the plugin, and the host's own calls too: writes one round of a rule into the output, as log records of [`RECORD_BYTES`](crate::RECORD_BYTES) each, all at this time. Answers how
+    /// many they are; later bytes of the output stay as they were.
+    ///
+    /// The rule is its number in the sheet, in file order from 0. Every choice gives a round that matches, and missing choice bytes count as 0; `docs/PLAYING.md` says which bytes pick which
+    /// round.
+    ///
+    /// # Errors
+    /// Looked for in this order: 17, [`Refusal::RuleUnknown`]: the book has no rule of this number; 18, [`Refusal::RoundLong`]: the round is longer than the output. Nothing is written then.
+    ///
+    /// ```
+    /// use guard::{Book, Refusal};
+    /// // rule R of document 01: names 0 and 1, once each and in any order, before each 2
+    /// let sheet = [
+    ///     0x4C, 0x4F, 0x42, 1, 0, 0, 0, 0, 0, 0, 0, 0, 0, 1, 1, 1, 0, 2, 0, 0, 0, 0, 0, 2, 0, 1, 0, 1, 0, 1, 1, 0, 1, 0,
+    /// ];
+    /// let book = Book::open(&sheet)?;
+    /// let mut log = [0; 15];
+    /// assert_eq!(book.play(0, 9, &[], &mut log)?, 3);
+    /// assert_eq!(log, [0, 9, 0, 0, 0, 1, 9, 0, 0, 0, 2, 9, 0, 0, 0]);
+    /// // a first byte of 2: the second of the two names comes first
+    /// assert_eq!(book.play(0, 9, &[2], &mut log)?, 3);
+    /// assert_eq!(log, [1, 9, 0, 0, 0, 0, 9, 0, 0, 0, 2, 9, 0, 0, 0]);
+    /// assert_eq!(book.play(0, 9, &[], &mut log[..14]), Err(Refusal::RoundLong));
+    /// assert_eq!(book.play(1, 9, &[], &mut []), Err(Refusal::RuleUnknown));
+    /// # Ok::<(), guard::Refusal>(())
+    /// ```
+    pub fn play(&self, rule: u32, time: u32, choice: &[u8], out: &mut [u8]) -> Result<usize, Refusal> {
+        let room = out.len() / RECORD_BYTES;
+        counted(ffi::play(&self.tables, rule, time, choice, out), room, 17..=18)
     }
 
     /// A fresh session under this book.
@@ -73,11 +105,11 @@ fn answer(word: u64, of_sheet: bool) -> Result<Verdict, Refusal> {
     answer_of(word as u8, (word >> 8) as u8, (word >> 16) as u16, place, of_sheet.then_some(place))
 }
 
-/// A writer's number, for a buffer of this length: so many bytes, or minus a refusal's number in 64 bits. Any other is one that this package doesn't know.
-fn written(word: u64, length: usize) -> Result<usize, Refusal> {
+/// The number of a call that writes at most so many bytes or records: how many they are, or minus one of its own refusals' numbers in 64 bits. Any other is one that this package doesn't know.
+fn counted(word: u64, most: usize, own: RangeInclusive<u8>) -> Result<usize, Refusal> {
     match (usize::try_from(word), u8::try_from(word.wrapping_neg())) {
-        (Ok(bytes), _) if bytes <= length => Ok(bytes),
-        (_, Ok(16)) => Err(Refusal::BufferShort),
+        (Ok(count), _) if count <= most => Ok(count),
+        (_, Ok(number)) if own.contains(&number) => Err(Refusal::of(number, None)),
         (_, number) => Err(Refusal::unknown(number.unwrap_or(u8::MAX))),
     }
 }
@@ -205,7 +237,7 @@ mod tests {
 
     #[test]
     fn a_writers_word() {
-        let minus = |n: u64| n.wrapping_neg();
+        let (minus, written) = (|n: u64| n.wrapping_neg(), |word, length| counted(word, length, 16..=16));
         assert_eq!((written(0, 0), written(34, 34), written(34, 5774)), (Ok(0), Ok(34), Ok(34)));
         assert_eq!([0, 33, 5774].map(|length| written(minus(16), length)), [Err(Refusal::BufferShort); 3]);
         // what this library never says: more than the buffer has, or another refusal
@@ -218,6 +250,18 @@ mod tests {
             (minus(256), 255),
         ] {
             assert_eq!(written(word, 34), Err(Refusal::unknown(number)));
+        }
+    }
+
+    #[test]
+    fn a_players_word() {
+        let (minus, played) = (|n: u64| n.wrapping_neg(), |word, room| counted(word, room, 17..=18));
+        assert_eq!((played(2, 2), played(2, 9)), (Ok(2), Ok(2)));
+        assert_eq!([0, 2].map(|room| played(minus(17), room)), [Err(Refusal::RuleUnknown); 2]);
+        assert_eq!([0, 2].map(|room| played(minus(18), room)), [Err(Refusal::RoundLong); 2]);
+        // what this library never says: more records than there is room for, or another refusal
+        for (word, number) in [(3, 255), (minus(16), 16), (minus(19), 19), (minus(256), 255)] {
+            assert_eq!(played(word, 2), Err(Refusal::unknown(number)));
         }
     }
 
@@ -245,7 +289,7 @@ mod tests {
                 match answer(u64::from(low) | 6 << 16 | 9 << 32, of_sheet) {
                     Ok(verdict) => assert!(kind < 3 && [0, 6].contains(&verdict.mask())),
                     Err(Refusal::Unknown { answer, number: n, place: p }) => {
-                        assert!((answer, n, p) == (kind, number, place) && (kind > 3 || !(1..=16).contains(&n)))
+                        assert!((answer, n, p) == (kind, number, place) && (kind > 3 || !(1..=18).contains(&n)))
                     }
                     Err(refusal) => assert!(kind == 3 && refusal.number() == number),
                 }

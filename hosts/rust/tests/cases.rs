@@ -1,9 +1,10 @@
-//! The cases that tests/host/cases.py takes from the reference: each log by the call, each list of observations by a session, each book written back. The script says how its file is laid out.
+//! The cases that tests/host/cases.py takes from the reference: each log by the call, each list of observations by a session, each book written back, each of its rules played. The script says how
+//! its file is laid out.
 
 mod common;
 
 use common::with_taken;
-use guard::{run, Book, Refusal, Session, Verdict};
+use guard::{run, Book, Refusal, Session, Verdict, RECORD_BYTES};
 use std::path::{Path, PathBuf};
 use std::process::Command;
 
@@ -105,11 +106,41 @@ fn hold_written(number: u32, book: &Book, sheet: &[u8]) {
     );
 }
 
+/// A round of each rule of the sheet, and 17 for the next number: the round leaves the rule whole, unless another breaks before. Answers how many rounds did.
+fn hold_played(number: u32, book: &Book, rules: u8) -> u32 {
+    let mut whole = 0;
+    for rule in 0..u32::from(rules) {
+        let choice: Vec<u8> = (0..number % 13).map(|i| (number.wrapping_mul(i + 7) >> 3) as u8).collect();
+        let mut log = [0; 100 * RECORD_BYTES];
+        let records = match book.play(rule, number, &choice, &mut log) {
+            Ok(records) => records,
+            refused => {
+                assert_eq!(
+                    (refused, log),
+                    (Err(Refusal::RoundLong), [0; 100 * RECORD_BYTES]),
+                    "case {number}, rule {rule}"
+                );
+                continue;
+            }
+        };
+        let mut session = book.session();
+        for record in log.chunks_exact(RECORD_BYTES).take(records) {
+            assert_eq!(record[1..], number.to_le_bytes(), "case {number}, rule {rule}");
+            session.event(record[0].into(), number).unwrap();
+        }
+        let verdict = session.verdict().unwrap();
+        assert!(verdict.mask() >> rule & 1 == 0, "case {number}, rule {rule}: {verdict}");
+        whole += u32::from(!verdict.is_broken());
+    }
+    assert_eq!(book.play(rules.into(), number, &[], &mut []), Err(Refusal::RuleUnknown), "case {number}");
+    whole
+}
+
 #[test]
 fn agree_with_the_reference() {
     let file = file();
     let mut bytes = Bytes(&file);
-    let (cases, mut opened, mut observations) = (bytes.four(), 0, 0);
+    let (cases, mut opened, mut observations, mut rounds) = (bytes.four(), 0, 0, 0);
     for number in 0..cases {
         let before = bytes.four();
         let (sheet, log, budget) = (bytes.slice(), bytes.slice(), bytes.four());
@@ -121,6 +152,7 @@ fn agree_with_the_reference() {
                 assert_eq!(due, [0; 4], "case {number}");
                 opened += 1;
                 hold_written(number, &book, sheet);
+                rounds += hold_played(number, &book, sheet[13]);
                 observations += hold_session(number, &book, before, &mut bytes);
             }
             Err(refusal) => {
@@ -130,5 +162,5 @@ fn agree_with_the_reference() {
         }
     }
     assert!(bytes.0.is_empty());
-    assert!(cases >= 10_000 && opened >= 5_000 && observations >= 50_000);
+    assert!(cases >= 10_000 && opened >= 5_000 && observations >= 50_000 && rounds >= 5_000);
 }

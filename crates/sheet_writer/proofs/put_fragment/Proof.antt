@@ -5,7 +5,8 @@ use Prim.Native.Nat.{ℕ, suc, _+_, _-_, _*_, _≤_}
 use native.Mathlib.Omega.{arith}
 use Rattle.layout.specs.Layout.{le}
 use Rattle.tables.specs.Cells.{lessIn}
-use Rattle.sheet_writer.specs.Parts.{joinField, cellOf, rangePart, fragmentPart}
+use Rattle.places.specs.Places.{cellOf}
+use Rattle.sheet_writer.specs.Parts.{joinField, rangePart, fragmentPart}
 use Rattle.sheet_writer.proofs.Lengths.{range-length, fragment-length}
 use Rattle.sheet_writer.proofs.Putting.{Puts, puts-length, puts-more, puts-after, range-read}
 use borrow.Author.Needs.{needs}

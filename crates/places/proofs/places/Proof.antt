@@ -1,13 +1,13 @@
--- `sheet_writer::places` meets its contract: from the last name to the first, each place gets the lowest that stands there. Assumes nothing.
+-- `places::places` meets its contract: from the last name to the first, each place gets the lowest that stands there. Assumes nothing.
 use mathlib.Core.Path.{_≡_}
 use Prim.Native.Nat.{ℕ, _-_, _≤_}
 use native.Mathlib.Omega.{arith}
 use lib.ListN.{length, length-replicate}
-use Rattle.sheet_writer.specs.Parts.{placeCount}
-use Rattle.sheet_writer.proofs.Naming.{NamedFrom, naming-start, naming-more, naming-end}
+use Rattle.places.specs.Places.{placeCount}
+use Rattle.places.proofs.Naming.{NamedFrom, naming-start, naming-more, naming-end}
 use borrow.Author.Needs.{needs}
-use Rattle.sheet_writer.proofs.places.Statement.{statement}
-use Rattle.sheet_writer.proofs.places.Tie as tie
+use Rattle.places.proofs.places.Statement.{statement}
+use Rattle.places.proofs.places.Tie as tie
 
 abbrev Inv-loop : tie.InvT-loop
 Inv-loop table names₀ n₀ names n = (n ≤ 64) × (length names ≡ placeCount) × NamedFrom table n names

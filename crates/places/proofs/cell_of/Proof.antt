@@ -1,13 +1,13 @@
--- `sheet_writer::cell_of` meets its contract: a place's name is at most 64, so its cell is in the table. Assumes nothing.
+-- `places::cell_of` meets its contract: a place's name is at most 64, so its cell is in the table. Assumes nothing.
 use Prim.Native.Nat.{_+_, _*_, _≤_}
 use native.Mathlib.Omega.{arith}
 use lib.ListN.{getD}
 use borrow.Author.Needs.{needs}
-use Rattle.sheet_writer.proofs.Lengths.{name-read, read-few}
-use Rattle.sheet_writer.proofs.cell_of.Statement.{statement}
-use Rattle.sheet_writer.proofs.cell_of.Tie as tie
-use Rattle.sheet_writer.proofs.cell_of.Reads as reads
-use Rattle.sheet_writer.proofs.cell_of.Lts as lts
+use Rattle.places.proofs.Reading.{name-read, read-few}
+use Rattle.places.proofs.cell_of.Statement.{statement}
+use Rattle.places.proofs.cell_of.Tie as tie
+use Rattle.places.proofs.cell_of.Reads as reads
+use Rattle.places.proofs.cell_of.Lts as lts
 
 -- the name that is read
 few : (c : lts.Start reads.Pre reads.Post) → getD (c .args .names .now) (128 * c .args .r + 8 * c .args .f + c .args .i) 0 ≤ 64

@@ -14,7 +14,7 @@ use Rattle.names.specs.Names.{member}
 use Rattle.names.proofs.Sets.{member-empty}
 use Rattle.masks.specs.Masks.{Less}
 use Rattle.tables.specs.Cells.{fragmentIn, indexIn, cellAt, maskIn, firstFrom, standsAt, nameAt}
-use Rattle.sheet_writer.specs.Parts.{placeAt, placeCount, Placed, Named}
+use Rattle.places.specs.Places.{placeAt, placeCount, Placed, Named}
 
 -- ---- one name
 

@@ -1,9 +1,9 @@
--- `sheet_writer::place` meets its contract: name n goes to its place in each rule that holds it. Assumes nothing.
+-- `places::place` meets its contract: name n goes to its place in each rule that holds it. Assumes nothing.
 use native.Mathlib.Omega.{arith}
-use Rattle.sheet_writer.proofs.Naming.{Placing, placing-start, placing-more, placing-end}
+use Rattle.places.proofs.Naming.{Placing, placing-start, placing-more, placing-end}
 use borrow.Author.Needs.{needs}
-use Rattle.sheet_writer.proofs.place.Statement.{statement}
-use Rattle.sheet_writer.proofs.place.Tie as tie
+use Rattle.places.proofs.place.Statement.{statement}
+use Rattle.places.proofs.place.Tie as tie
 
 abbrev Inv-loop : tie.InvT-loop
 Inv-loop names₀ table n todo₀ names todo = Placing table n names₀ todo names

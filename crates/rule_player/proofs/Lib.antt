@@ -1,0 +1,10 @@
+pub mod Said
+pub mod Own
+pub mod Walk
+pub mod Passing
+pub mod Playing
+pub mod ReadBack
+pub mod Fills
+pub mod Rounds
+pub mod Keeps
+pub mod Sentences

@@ -1,0 +1,5 @@
+pub mod Choice
+pub mod Rounds
+pub mod Said
+pub mod Playing
+pub mod Passing
