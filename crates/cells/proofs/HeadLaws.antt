@@ -8,7 +8,7 @@ use lib.ListN.{length, length-append}
 use Rattle.pattern.specs.Meaning.{Fragment, Kind, once, repeated, timed, Rule, WellFormed}
 use Rattle.pattern.specs.Model.{triggerFragment, lastFragments, roundOf}
 use Rattle.layout.specs.Layout.{headerOf, kindNumber, inQ, triggerOf, timeOf}
-use Rattle.layout.specs.Reading.{byKind}
+use Rattle.layout.specs.Faults.{byKind}
 use Rattle.layout.specs.Pages.{headerWord}
 use Rattle.layout.proofs.PageLaws.{round-few}
 use Rattle.tables.specs.Words.{countPIn, roundIn}

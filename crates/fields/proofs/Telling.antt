@@ -11,7 +11,7 @@ use lib.ListN.{length}
 use borrow.Author.Tests.{lt-ltb, le-ltb}
 use Rattle.layout.specs.Form.{Got, got, stopped, number, fieldAt, unless}
 use Rattle.layout.specs.Terms.{noFault}
-use Rattle.layout.specs.Reading.{outside}
+use Rattle.layout.specs.Faults.{outside}
 use Rattle.fields.specs.Told.{Told, right, wrong, Value, Within}
 
 -- ---- a field whose value may be anything

@@ -9,7 +9,7 @@ ghost use Rattle.names.specs.Names.{member};
 ghost use Rattle.layout.specs.Layout.{lastKind, mostFragments, lastName};
 ghost use Rattle.layout.specs.Form.{number, fieldAt};
 ghost use Rattle.layout.specs.Terms.{today, noFault};
-ghost use Rattle.layout.specs.Reading.{outside, unlike, dueZero, countFault, leastFault, mostFault, triggerFault, versionFault, rulesFault, kindFault, joinFault, nameFault, byKind};
+ghost use Rattle.layout.specs.Faults.{outside, unlike, dueZero, countFault, leastFault, mostFault, triggerFault, versionFault, rulesFault, kindFault, joinFault, nameFault, byKind};
 ghost use Rattle.fields.specs.Told.{Told, Value, Within};
 
 // A field: fault 0, its value and the offset after it; or the fault and its place.

@@ -15,7 +15,8 @@ use Rattle.names.proofs.Sets.{member-empty}
 use Rattle.layout.specs.Terms.{noFault, Terms, today, Covered}
 use Rattle.layout.specs.Layout.{Sheet, le, each, ruleBytes, mark, encode, Output, Allowed, WellFormedRule, WellFormedOn, WellFormedSheet, Bytes}
 use Rattle.layout.specs.Form.{Got, got, stopped, next, fieldAt, read}
-use Rattle.layout.specs.Reading.{markFault, versionFault, rulesFault, rule, rules, sheet, Outcome, accepted, refused, atEnd, unlessLong, readSheetOn, readSheet}
+use Rattle.layout.specs.Faults.{markFault, versionFault, rulesFault}
+use Rattle.layout.specs.Reading.{rule, rules, sheet, Outcome, accepted, refused, atEnd, unlessLong, readSheetOn, readSheet}
 use Rattle.layout.proofs.Values.{today-covered, unlike-faultless, outside-faultless, outside-right}
 use Rattle.layout.proofs.Fields.{Piece, join-pieces, field-complete, Finds}
 use Rattle.layout.proofs.Forms.{next-got, field-got, next-same, moved, read-bind, Sound, AllGood, several-sound, several-complete}
@@ -39,24 +40,24 @@ record SheetFits (T : Terms) (S : Sheet) : Type 0 where
 module _ {T : Terms} (covered : Covered T) (s : List ℕ) where
   -- a sheet is read as its header's four fields, and the rules
   pub read-sheet : (at : ℕ)
-      → read s (sheet T) at
+      → read T s sheet at
       ≡ next (fieldAt s 3 markFault at) (λ m at₁. next (fieldAt s 2 (versionFault T) at₁) (λ v at₂. next (fieldAt s 8 noFault at₂)
-      (λ o at₃. next (fieldAt s 1 (rulesFault T) at₃) (λ n at₄. next (read s (rules T v o n) at₄) (λ rs at₅. got (record { version = v; outputs = o; rules = rs }) at₅)))))
+      (λ o at₃. next (fieldAt s 1 (rulesFault T) at₃) (λ n at₄. next (read T s (rules v o n) at₄) (λ rs at₅. got (record { version = v; outputs = o; rules = rs }) at₅)))))
   unfolding sheet
   read-sheet at =
       next-same (fieldAt s 3 markFault at) (λ m at₁. next-same (fieldAt s 2 (versionFault T) at₁) (λ v at₂. next-same (fieldAt s 8 noFault at₂)
-      (λ o at₃. next-same (fieldAt s 1 (rulesFault T) at₃) (λ n at₄. read-bind s (rules T v o n) _ at₄))))
+      (λ o at₃. next-same (fieldAt s 1 (rulesFault T) at₃) (λ n at₄. read-bind T s (rules v o n) _ at₄))))
 
-  sheet-sound : Bytes s → (at end : ℕ) (S : Sheet) → read s (sheet T) at ≡ got S end → Sound s encode (SheetFits T) at S end
+  sheet-sound : Bytes s → (at end : ℕ) (S : Sheet) → read T s sheet at ≡ got S end → Sound s encode (SheetFits T) at S end
   unfolding rules
   sheet-sound bytes at end S e =
       let (m, at₁, a, k₁) = field-got bytes 3 markFault at (sym (read-sheet at) ∙ e) in
       let (v, at₂, b, k₂) = field-got bytes 2 (versionFault T) at₁ k₁ in
       let (o, at₃, c, k₃) = field-got bytes 8 noFault at₂ k₂ in
       let (n, at₄, d, k₄) = field-got bytes 1 (rulesFault T) at₃ k₃ in
-      let (rs, at₅, e₅, k₅) = next-got (read s (rules T v o n) at₄) k₄ in
+      let (rs, at₅, e₅, k₅) = next-got (read T s (rules v o n) at₄) k₄ in
       let f : Sound s (each ruleBytes) (λ (ys : List Rule). (length ys ≡ n) × AllGood none (Fit T v o) 0 ys) at₄ rs at₅
-      = several-sound s (λ _. rule T v o) none ruleBytes (Fit T v o) (λ used i j r l p. rule-sound covered s v o bytes i j r p) n 0 at₄ at₅ rs (d .piece .inside) e₅ in
+      = several-sound T s (λ _. rule v o) none ruleBytes (Fit T v o) (λ used i j r l p. rule-sound covered s v o bytes i j r p) n 0 at₄ at₅ rs (d .piece .inside) e₅ in
       moved (λ (x : Sheet) (j : ℕ). Sound s encode (SheetFits T) at x j) k₅
       (record {
         piece = join-pieces (subst (λ (x : ℕ). Piece s at (le 3 x) at₁) (unlike-faultless 1 mark m (a .faultless)) (a .piece))
@@ -70,7 +71,7 @@ module _ {T : Terms} (covered : Covered T) (s : List ℕ) where
         };
       })
 
-  sheet-complete : (S : Sheet) → SheetFits T S → s ≡ encode S → Finds s (read s (sheet T) 0) S []
+  sheet-complete : (S : Sheet) → SheetFits T S → s ≡ encode S → Finds s (read T s sheet 0) S []
   unfolding rules
   sheet-complete S g e =
       let v : ℕ = S .version in
@@ -81,8 +82,8 @@ module _ {T : Terms} (covered : Covered T) (s : List ℕ) where
       let b = field-complete s 2 (versionFault T) v (a .end) (a .inside) (omega (arith, g .known, covered .versions)) (outside-right 3 1 (T .newest) v (g .known)) (a .left) in
       let c = field-complete s 8 noFault o (b .end) (b .inside) (g .outputs) refl (b .left) in
       let d = field-complete s 1 (rulesFault T) n (c .end) (c .inside) (omega (arith, g .count, covered .rules)) (outside-right 4 1 (T .mostRules) n (g .count)) (c .left) in
-      let f : Finds s (read s (rules T v o n) (d .end)) (S .rules) []
-      = several-complete s (λ _. rule T v o) none ruleBytes (Fit T v o) (λ used i r rest l w p. rule-complete covered s v o i r rest l w p) (S .rules) 0 (d .end) [] (d .inside) (g .rules)
+      let f : Finds s (read T s (rules v o n) (d .end)) (S .rules) []
+      = several-complete T s (λ _. rule v o) none ruleBytes (Fit T v o) (λ used i r rest l w p. rule-complete covered s v o i r rest l w p) (S .rules) 0 (d .end) [] (d .inside) (g .rules)
       (d .left ∙ sym (append-nil R)) in
       record { end = f .end; reads = read-sheet 0 ∙ rw (a .reads, b .reads, c .reads, d .reads, f .reads); left = f .left; inside = f .inside }
 
@@ -195,7 +196,7 @@ module _ {T : Terms} (covered : Covered T) where
   unfolding readSheetOn
   only-encoded s bytes {S} e =
       let (few, e₀) = unless-long (T .bytes (length s)) e in
-      let (end, e₁, l) = at-end s (read s (sheet T) 0) e₀ in
+      let (end, e₁, l) = at-end s (read T s sheet 0) e₀ in
       let a : Sound s encode (SheetFits T) 0 S end = sheet-sound covered s bytes 0 end S e₁ in
       let g : SheetFits T S = a .good in
       record {

@@ -5,10 +5,10 @@ pub mod Parts
 pub mod Sets
 pub mod Acceptance
 pub mod FirstFault
-pub mod Alike
 pub mod Length
 pub mod Accepted
 pub mod PageLaws
 pub mod Once
+pub mod Parting
 pub mod Versions
 pub mod Endless

@@ -12,7 +12,8 @@ use Rattle.names.specs.Names.{insertAll}
 use Rattle.layout.specs.Terms.{noFault, Terms, Covered}
 use Rattle.layout.specs.Layout.{each, mostFragments, mostRanges, joinNumber, kindNumber, inQ, triggerOf, timeOf, rangeBytes, fragmentBytes, Header, headerOf, headerBytes, ruleBytes, EndAllowed, Bytes}
 use Rattle.layout.specs.Form.{got, next, fieldAt, read}
-use Rattle.layout.specs.Reading.{dueZero, countFault, leastFault, mostFault, triggerFault, kindFault, joinFault, nameFault, byKind, joinOf, kindOf, triggerSet, rangeName, range, ranges, fragment, fragments, header, rule}
+use Rattle.layout.specs.Faults.{dueZero, countFault, leastFault, mostFault, triggerFault, kindFault, joinFault, nameFault, byKind}
+use Rattle.layout.specs.Reading.{joinOf, kindOf, triggerSet, rangeName, range, ranges, fragment, fragments, header, rule}
 use Rattle.layout.proofs.Values.{outside-faultless, outside-right, below-faultless, below-right, most-faultless, most-right, NameFits, name-faultless, name-right, ByKind, kind-faultless, kind-right}
 use Rattle.layout.proofs.Fields.{Piece, join-pieces, field-complete, Finds}
 use Rattle.layout.proofs.Forms.{next-got, field-got, next-same, moved, read-bind, several-length, Sound, AllGood, several-sound, several-complete}
@@ -26,7 +27,7 @@ pub record RangeFits (T : Terms) (version outputs : ℕ) (ofQ : Bool) (used : �
   pub ended : EndAllowed T version r
 
 module _ {T : Terms} (covered : Covered T) (s : List ℕ) (version outputs : ℕ) (ofQ : Bool) where
-  range-sound : Bytes s → (used at end : ℕ) (r : Range) → at ≤ length s → read s (range T version outputs ofQ used) at ≡ got r end
+  range-sound : Bytes s → (used at end : ℕ) (r : Range) → at ≤ length s → read T s (range version outputs ofQ used) at ≡ got r end
       → Sound s rangeBytes (RangeFits T version outputs ofQ used) at r end
   unfolding range
   range-sound bytes used at end r h e =
@@ -47,7 +48,7 @@ module _ {T : Terms} (covered : Covered T) (s : List ℕ) (version outputs : ℕ
       })
 
   range-complete : (used at : ℕ) (r : Range) (rest : List ℕ) → at ≤ length s → RangeFits T version outputs ofQ used r → drop at s ≡ rangeBytes r ++ rest
-      → Finds s (read s (range T version outputs ofQ used) at) r rest
+      → Finds s (read T s (range version outputs ofQ used) at) r rest
   unfolding range
   range-complete used at r rest h g e =
       let w : WellFormedRange r = g .formed in
@@ -79,28 +80,28 @@ join-of allShuffled = refl
 join-of anyShuffled = refl
 
 module _ {T : Terms} (covered : Covered T) (s : List ℕ) (version outputs : ℕ) (ofQ : Bool) where
-  pub ranges-length : (used n at : ℕ) {end : ℕ} {rs : List Range} → read s (ranges T version outputs ofQ used n) at ≡ got rs end → length rs ≡ n
+  pub ranges-length : (used n at : ℕ) {end : ℕ} {rs : List Range} → read T s (ranges version outputs ofQ used n) at ≡ got rs end → length rs ≡ n
   unfolding ranges
-  ranges-length used n at e = several-length s (range T version outputs ofQ) rangeName n used at e
+  ranges-length used n at e = several-length T s (range version outputs ofQ) rangeName n used at e
 
   -- a fragment is read as its join, its count and its ranges
   pub read-fragment : (used at : ℕ)
-      → read s (fragment T version outputs ofQ used) at
-      ≡ next (fieldAt s 1 (joinFault T version) at) (λ j at₁. next (fieldAt s 1 (countFault mostRanges) at₁) (λ n at₂. next (read s (ranges T version outputs ofQ used n) at₂)
+      → read T s (fragment version outputs ofQ used) at
+      ≡ next (fieldAt s 1 (joinFault T version) at) (λ j at₁. next (fieldAt s 1 (countFault mostRanges) at₁) (λ n at₂. next (read T s (ranges version outputs ofQ used n) at₂)
       (λ rs at₃. got (record { join = joinOf j; ranges = rs }) at₃)))
   unfolding fragment
   read-fragment used at =
-      next-same (fieldAt s 1 (joinFault T version) at) (λ j at₁. next-same (fieldAt s 1 (countFault mostRanges) at₁) (λ n at₂. read-bind s (ranges T version outputs ofQ used n) _ at₂))
+      next-same (fieldAt s 1 (joinFault T version) at) (λ j at₁. next-same (fieldAt s 1 (countFault mostRanges) at₁) (λ n at₂. read-bind T s (ranges version outputs ofQ used n) _ at₂))
 
-  fragment-sound : Bytes s → (used at end : ℕ) (f : Fragment) → at ≤ length s → read s (fragment T version outputs ofQ used) at ≡ got f end
+  fragment-sound : Bytes s → (used at end : ℕ) (f : Fragment) → at ≤ length s → read T s (fragment version outputs ofQ used) at ≡ got f end
       → Sound s fragmentBytes (FragmentFits T version outputs ofQ used) at f end
   unfolding ranges
   fragment-sound bytes used at end f h e =
       let (j, at₁, a, k₁) = field-got bytes 1 (joinFault T version) at (sym (read-fragment used at) ∙ e) in
       let (n, at₂, b, k₂) = field-got bytes 1 (countFault mostRanges) at₁ k₁ in
-      let (rs, at₃, e₃, k₃) = next-got (read s (ranges T version outputs ofQ used n) at₂) k₂ in
+      let (rs, at₃, e₃, k₃) = next-got (read T s (ranges version outputs ofQ used n) at₂) k₂ in
       let d : Sound s (each rangeBytes) (λ (ys : List Range). (length ys ≡ n) × AllGood rangeName (RangeFits T version outputs ofQ) used ys) at₂ rs at₃
-      = several-sound s (range T version outputs ofQ) rangeName rangeBytes (RangeFits T version outputs ofQ) (range-sound covered s version outputs ofQ bytes) n used at₂ at₃ rs (b .piece .inside) e₃ in
+      = several-sound T s (range version outputs ofQ) rangeName rangeBytes (RangeFits T version outputs ofQ) (range-sound covered s version outputs ofQ bytes) n used at₂ at₃ rs (b .piece .inside) e₃ in
       let allowed = outside-faultless 3 0 (T .lastJoin version) j (a .faultless) in
       let same : joinNumber (joinOf j) ≡ j = join-number covered version j allowed in
       moved (λ (x : Fragment) (k : ℕ). Sound s fragmentBytes (FragmentFits T version outputs ofQ used) at x k) k₃
@@ -109,14 +110,14 @@ module _ {T : Terms} (covered : Covered T) (s : List ℕ) (version outputs : ℕ
         good = record { join = rw same (allowed .1); count = rw (d .good .0) (outside-faultless 3 1 8 n (b .faultless)); ranges = d .good .1 };
       })
 
-  pub fragments-sound : Bytes s → (n used at end : ℕ) (fs : List Fragment) → at ≤ length s → read s (fragments T version outputs ofQ used n) at ≡ got fs end
+  pub fragments-sound : Bytes s → (n used at end : ℕ) (fs : List Fragment) → at ≤ length s → read T s (fragments version outputs ofQ used n) at ≡ got fs end
       → Sound s (each fragmentBytes) (λ (ys : List Fragment). (length ys ≡ n) × AllGood fragmentNames (FragmentFits T version outputs ofQ) used ys) at fs end
   unfolding fragments
   fragments-sound bytes n used at end fs h e =
-      several-sound s (fragment T version outputs ofQ) fragmentNames fragmentBytes (FragmentFits T version outputs ofQ) (fragment-sound bytes) n used at end fs h e
+      several-sound T s (fragment version outputs ofQ) fragmentNames fragmentBytes (FragmentFits T version outputs ofQ) (fragment-sound bytes) n used at end fs h e
 
   fragment-complete : (used at : ℕ) (f : Fragment) (rest : List ℕ) → at ≤ length s → FragmentFits T version outputs ofQ used f → drop at s ≡ fragmentBytes f ++ rest
-      → Finds s (read s (fragment T version outputs ofQ used) at) f rest
+      → Finds s (read T s (fragment version outputs ofQ used) at) f rest
   unfolding ranges
   fragment-complete used at f rest h g e =
       let n : ℕ = length (f .ranges) in
@@ -124,8 +125,8 @@ module _ {T : Terms} (covered : Covered T) (s : List ℕ) (version outputs : ℕ
       let tail : List ℕ = each rangeBytes (f .ranges) in
       let a = field-complete s 1 (joinFault T version) j at h (omega (arith, g .join, covered .joins version)) (outside-right 4 0 (T .lastJoin version) j (omega arith, g .join)) e in
       let b = field-complete s 1 (countFault mostRanges) n (a .end) (a .inside) (omega (arith, g .count)) (outside-right 4 1 8 n (g .count)) (a .left) in
-      let d : Finds s (read s (ranges T version outputs ofQ used n) (b .end)) (f .ranges) rest
-      = several-complete s (range T version outputs ofQ) rangeName rangeBytes (RangeFits T version outputs ofQ) (range-complete covered s version outputs ofQ)
+      let d : Finds s (read T s (ranges version outputs ofQ used n) (b .end)) (f .ranges) rest
+      = several-complete T s (range version outputs ofQ) rangeName rangeBytes (RangeFits T version outputs ofQ) (range-complete covered s version outputs ofQ)
       (f .ranges) used (b .end) rest (b .inside) (g .ranges) (b .left) in
       record {
         end = d .end;
@@ -135,14 +136,14 @@ module _ {T : Terms} (covered : Covered T) (s : List ℕ) (version outputs : ℕ
       }
 
   pub fragments-complete : (fs : List Fragment) (used at : ℕ) (rest : List ℕ) → at ≤ length s → AllGood fragmentNames (FragmentFits T version outputs ofQ) used fs
-      → drop at s ≡ each fragmentBytes fs ++ rest → Finds s (read s (fragments T version outputs ofQ used (length fs)) at) fs rest
+      → drop at s ≡ each fragmentBytes fs ++ rest → Finds s (read T s (fragments version outputs ofQ used (length fs)) at) fs rest
   unfolding fragments
   fragments-complete fs used at rest h g e =
-      several-complete s (fragment T version outputs ofQ) fragmentNames fragmentBytes (FragmentFits T version outputs ofQ) fragment-complete fs used at rest h g e
+      several-complete T s (fragment version outputs ofQ) fragmentNames fragmentBytes (FragmentFits T version outputs ofQ) fragment-complete fs used at rest h g e
 
-  pub fragments-length : (used n at : ℕ) {end : ℕ} {fs : List Fragment} → read s (fragments T version outputs ofQ used n) at ≡ got fs end → length fs ≡ n
+  pub fragments-length : (used n at : ℕ) {end : ℕ} {fs : List Fragment} → read T s (fragments version outputs ofQ used n) at ≡ got fs end → length fs ≡ n
   unfolding fragments
-  fragments-length used n at e = several-length s (fragment T version outputs ofQ) fragmentNames n used at e
+  fragments-length used n at e = several-length T s (fragment version outputs ofQ) fragmentNames n used at e
 
 -- ---- a rule's eight bytes
 
@@ -152,7 +153,7 @@ pub record HeaderFits (T : Terms) (version outputs : ℕ) (h : Header) : Type 0 
   pub byKind′ : ByKind outputs (h .kind) (h .countQ) (h .trigger) (h .time)
 
 module _ {T : Terms} (covered : Covered T) (s : List ℕ) (version outputs : ℕ) where
-  pub header-sound : Bytes s → (at end : ℕ) (h : Header) → read s (header T version outputs) at ≡ got h end → Sound s headerBytes (HeaderFits T version outputs) at h end
+  pub header-sound : Bytes s → (at end : ℕ) (h : Header) → read T s (header version outputs) at ≡ got h end → Sound s headerBytes (HeaderFits T version outputs) at h end
   unfolding header
   header-sound bytes at end h e =
       let (k, at₁, a, k₁) = field-got bytes 1 (kindFault T version) at e in
@@ -172,7 +173,7 @@ module _ {T : Terms} (covered : Covered T) (s : List ℕ) (version outputs : ℕ
       })
 
   header-complete : (at : ℕ) (h : Header) (rest : List ℕ) → at ≤ length s → HeaderFits T version outputs h → drop at s ≡ headerBytes h ++ rest
-      → Finds s (read s (header T version outputs) at) h rest
+      → Finds s (read T s (header version outputs) at) h rest
   unfolding header
   header-complete at h rest l g e =
       let w = kind-right outputs (h .kind) (h .countQ) (h .trigger) (h .time) (g .byKind′) in
@@ -214,15 +215,15 @@ kind-of (timed q t) = refl
 module _ {T : Terms} (covered : Covered T) (s : List ℕ) (version outputs : ℕ) where
   -- a rule is read as its header, P and Q
   pub read-rule : (at : ℕ)
-      → read s (rule T version outputs) at
-      ≡ next (read s (header T version outputs) at) (λ h at₁. next (read s (fragments T version outputs false (triggerSet h) (h .countP)) at₁)
-      (λ p at₂. next (read s (fragments T version outputs true (insertAll (triggerSet h) (orderingNames p)) (h .countQ)) at₂) (λ q at₃. got (made h p q) at₃)))
+      → read T s (rule version outputs) at
+      ≡ next (read T s (header version outputs) at) (λ h at₁. next (read T s (fragments version outputs false (triggerSet h) (h .countP)) at₁)
+      (λ p at₂. next (read T s (fragments version outputs true (insertAll (triggerSet h) (orderingNames p)) (h .countQ)) at₂) (λ q at₃. got (made h p q) at₃)))
   unfolding rule
   read-rule at =
-      read-bind s (header T version outputs) _ at
-      ∙ next-same (read s (header T version outputs) at) (λ h at₁. read-bind s (fragments T version outputs false (triggerSet h) (h .countP)) _ at₁
-      ∙ next-same (read s (fragments T version outputs false (triggerSet h) (h .countP)) at₁)
-      (λ p at₂. read-bind s (fragments T version outputs true (insertAll (triggerSet h) (orderingNames p)) (h .countQ)) _ at₂))
+      read-bind T s (header version outputs) _ at
+      ∙ next-same (read T s (header version outputs) at) (λ h at₁. read-bind T s (fragments version outputs false (triggerSet h) (h .countP)) _ at₁
+      ∙ next-same (read T s (fragments version outputs false (triggerSet h) (h .countP)) at₁)
+      (λ p at₂. read-bind T s (fragments version outputs true (insertAll (triggerSet h) (orderingNames p)) (h .countQ)) _ at₂))
 
   made-sound : (h : Header) (p q : List Fragment) (at at₁ at₂ at₃ : ℕ) → headerOf (made h p q) ≡ h → inQ (kindOf (h .kind) (h .trigger) q (h .time)) ≡ q
       → Sound s headerBytes (HeaderFits T version outputs) at h at₁
@@ -243,11 +244,11 @@ module _ {T : Terms} (covered : Covered T) (s : List ℕ) (version outputs : ℕ
         };
       }
 
-  pub rule-sound : Bytes s → (at end : ℕ) (r : Rule) → read s (rule T version outputs) at ≡ got r end → Sound s ruleBytes (RuleFits T version outputs) at r end
+  pub rule-sound : Bytes s → (at end : ℕ) (r : Rule) → read T s (rule version outputs) at ≡ got r end → Sound s ruleBytes (RuleFits T version outputs) at r end
   rule-sound bytes at end r e =
-      let (h, at₁, e₁, k₁) = next-got (read s (header T version outputs) at) (sym (read-rule at) ∙ e) in
-      let (p, at₂, e₂, k₂) = next-got (read s (fragments T version outputs false (triggerSet h) (h .countP)) at₁) k₁ in
-      let (q, at₃, e₃, k₃) = next-got (read s (fragments T version outputs true (insertAll (triggerSet h) (orderingNames p)) (h .countQ)) at₂) k₂ in
+      let (h, at₁, e₁, k₁) = next-got (read T s (header version outputs) at) (sym (read-rule at) ∙ e) in
+      let (p, at₂, e₂, k₂) = next-got (read T s (fragments version outputs false (triggerSet h) (h .countP)) at₁) k₁ in
+      let (q, at₃, e₃, k₃) = next-got (read T s (fragments version outputs true (insertAll (triggerSet h) (orderingNames p)) (h .countQ)) at₂) k₂ in
       let a = header-sound covered s version outputs bytes at at₁ h e₁ in
       let b = fragments-sound covered s version outputs false bytes (h .countP) (triggerSet h) at₁ at₂ p (a .piece .inside) e₂ in
       let d = fragments-sound covered s version outputs true bytes (h .countQ) (insertAll (triggerSet h) (orderingNames p)) at₂ at₃ q (b .piece .inside) e₃ in
@@ -255,14 +256,14 @@ module _ {T : Terms} (covered : Covered T) (s : List ℕ) (version outputs : ℕ
       moved (λ (x : Rule) (j : ℕ). Sound s ruleBytes (RuleFits T version outputs) at x j) k₃ (made-sound h p q at at₁ at₂ at₃ (o .0) (o .1) a b d)
 
   pub rule-complete : (at : ℕ) (r : Rule) (rest : List ℕ) → at ≤ length s → RuleFits T version outputs r → drop at s ≡ ruleBytes r ++ rest
-      → Finds s (read s (rule T version outputs) at) r rest
+      → Finds s (read T s (rule version outputs) at) r rest
   rule-complete at r rest l g e =
       let P : List ℕ = each fragmentBytes (r .p) in
       let Q : List ℕ = each fragmentBytes (inQ (r .kind)) in
       let set : ℕ = triggerSet (headerOf r) in
-      let a : Finds s (read s (header T version outputs) at) (headerOf r) ((P ++ Q) ++ rest) = header-complete covered s version outputs at (headerOf r) ((P ++ Q) ++ rest) l (g .header) e in
-      let b : Finds s (read s (fragments T version outputs false set (length (r .p))) (a .end)) (r .p) (Q ++ rest)
+      let a : Finds s (read T s (header version outputs) at) (headerOf r) ((P ++ Q) ++ rest) = header-complete covered s version outputs at (headerOf r) ((P ++ Q) ++ rest) l (g .header) e in
+      let b : Finds s (read T s (fragments version outputs false set (length (r .p))) (a .end)) (r .p) (Q ++ rest)
       = fragments-complete covered s version outputs false (r .p) set (a .end) (Q ++ rest) (a .inside) (g .p) (a .left ∙ append-assoc P Q rest) in
-      let d : Finds s (read s (fragments T version outputs true (insertAll set (orderingNames (r .p))) (length (inQ (r .kind)))) (b .end)) (inQ (r .kind)) rest
+      let d : Finds s (read T s (fragments version outputs true (insertAll set (orderingNames (r .p))) (length (inQ (r .kind)))) (b .end)) (inQ (r .kind)) rest
       = fragments-complete covered s version outputs true (inQ (r .kind)) (insertAll set (orderingNames (r .p))) (b .end) rest (b .inside) (g .q) (b .left) in
       record { end = d .end; reads = read-rule at ∙ rw (a .reads, b .reads, d .reads, kind-of (r .kind)); left = d .left; inside = d .inside }

@@ -11,18 +11,28 @@ use borrow.Author.Tests.{ne-eqb, lt-ltb, le-ltb, ltb-false}
 use Rattle.pattern.specs.Meaning.{Between}
 use Rattle.names.specs.Names.{member, insert, withName}
 use Rattle.layout.specs.Layout.{Input}
-use Rattle.layout.specs.Terms.{_when_or_, noFault, Terms, eightFirst, base, firstShuffled, today, Covered}
-use Rattle.layout.specs.Reading.{outside, unlike, dueZero, countFault, below, mostFault, nameFault, triggerFault, byKind}
+use Rattle.layout.specs.Terms.{_when_or_, noFault, Terms, base, firstShuffled, today, Covered}
+use Rattle.layout.specs.Faults.{outside, unlike, dueZero, countFault, below, mostFault, nameFault, triggerFault, byKind}
 
-in-order : (a b c : Bool) → eightFirst a b c ≡ 0 → (a ≡ false) × (b ≡ false) × (c ≡ false)
-in-order true b c z = absurd (omega (arith, z))
-in-order false true c z = absurd (omega (arith, z))
-in-order false false true z = absurd (omega (arith, z))
-in-order false false false z = (refl, refl, refl)
+-- the faults of a name, in whatever order they are asked: each has a number
+abbrev EachNumbered : (Bool → Bool → Bool → ℕ) → Type 0
+EachNumbered order =
+    (0 < order true true true) × (0 < order true true false) × (0 < order true false true) × (0 < order true false false)
+    × (0 < order false true true) × (0 < order false true false) × (0 < order false false true)
+
+in-order : (order : Bool → Bool → Bool → ℕ) → EachNumbered order → (a b c : Bool) → order a b c ≡ 0 → (a ≡ false) × (b ≡ false) × (c ≡ false)
+in-order order some true true true z = absurd (omega (arith, some, z))
+in-order order some true true false z = absurd (omega (arith, some, z))
+in-order order some true false true z = absurd (omega (arith, some, z))
+in-order order some true false false z = absurd (omega (arith, some, z))
+in-order order some false true true z = absurd (omega (arith, some, z))
+in-order order some false true false z = absurd (omega (arith, some, z))
+in-order order some false false true z = absurd (omega (arith, some, z))
+in-order order some false false false z = (refl, refl, refl)
 
 -- on terms that the meaning covers, as today's are
 pub today-covered : Covered today
-today-covered = record { versions = omega arith; joins = λ v. few (ltb v firstShuffled); rules = omega arith; faultless = in-order; right = refl }
+today-covered = record { versions = omega arith; joins = λ v. few (ltb v firstShuffled); rules = omega arith; faultless = in-order (today .inOrder) (omega arith); right = refl }
   where
     few : (b : Bool) → cond b 1 3 ≤ 3
     few true = omega arith
@@ -30,7 +40,7 @@ today-covered = record { versions = omega arith; joins = λ v. few (ltb v firstS
 
 -- and as document 01's were
 pub base-covered : Covered base
-base-covered = record { versions = omega arith; joins = λ v. omega arith; rules = omega arith; faultless = in-order; right = refl }
+base-covered = record { versions = omega arith; joins = λ v. omega arith; rules = omega arith; faultless = in-order (base .inOrder) (omega arith); right = refl }
 
 pub outside-faultless : (k first last x : ℕ) → outside (suc k) first last x ≡ 0 → Between first last x
 outside-faultless k first last x = go (ltb x first) (ltb last x) refl refl
@@ -80,20 +90,20 @@ abbrev pub NameFits : ℕ → Bool → ℕ → ℕ → Type 0
 NameFits outputs ofQ used n = (member used n ≡ false) × ((ofQ && not (member outputs n)) ≡ false)
 
 module _ {T : Terms} (covered : Covered T) where
-  pub name-faultless : (outputs : ℕ) (ofQ : Bool) (used n : ℕ) → nameFault T outputs ofQ used n ≡ 0 → (n ≤ 63) × NameFits outputs ofQ used n
-  name-faultless outputs ofQ used n z = let f = covered .faultless (ltb 63 n) _ _ z in (ltb-false 63 n (f .0), (f .1, f .2))
-
   pub name-right : (outputs : ℕ) (ofQ : Bool) (used n : ℕ) → n ≤ 63 → NameFits outputs ofQ used n → nameFault T outputs ofQ used n ≡ 0
   name-right outputs ofQ used n h f = go (le-ltb 63 n h) (f .0) (f .1)
     where
       go : {a b c : Bool} → a ≡ false → b ≡ false → c ≡ false → T .inOrder a b c ≡ 0
       go p q r = rw (p, q, r) (covered .right)
 
+  pub name-faultless : (outputs : ℕ) (ofQ : Bool) (used n : ℕ) → nameFault T outputs ofQ used n ≡ 0 → (n ≤ 63) × NameFits outputs ofQ used n
+  name-faultless outputs ofQ used n z = let f = covered .faultless (ltb 63 n) _ _ z in (ltb-false 63 n (f .0), (f .1, f .2))
+
 abbrev pub TriggerFits : ℕ → ℕ → Type 0
 TriggerFits outputs i = (i ≤ 63) × Input outputs i
 
 pub trigger-faultless : (outputs i : ℕ) → triggerFault outputs i ≡ 0 → TriggerFits outputs i
-trigger-faultless outputs i z = let f = today-covered .faultless (ltb 63 i) false _ z in (ltb-false 63 i (f .0), f .2)
+trigger-faultless outputs i z = let f = base-covered .faultless (ltb 63 i) false _ z in (ltb-false 63 i (f .0), f .2)
 
 trigger-right : (outputs i : ℕ) → TriggerFits outputs i → triggerFault outputs i ≡ 0
 trigger-right outputs i h = rw (le-ltb 63 i (h .0), h .1)

@@ -1,5 +1,5 @@
 -- The versions: what version 2 adds affects no other sheet (document 02, change 1: "Version 1 sheets read as before"), and a sheet of version 1 has no shuffled fragment and no v = 0.
--- Two terms that say the same of a version but for some faults read the rules of its sheets alike but for these (`read-alike`), and before the version's field nothing goes by the terms.
+-- Two terms that say the same at every field but some read every sheet alike whose reading comes to none of these (`alike-but`).
 -- Assumes nothing.
 use mathlib.Core.Path.{_≡_, refl, sym, subst, _∙_}
 use mathlib.Core.Logic.{_⊎_, inl, inr}
@@ -7,154 +7,157 @@ use mathlib.Core.Bool.{Bool, true, false}
 use mathlib.Core.List.{List, [], _∷_}
 use Prim.Native.Nat.{ℕ, zero, suc, _+_, _^_, _≤_, _<_}
 use native.Mathlib.Omega.{arith}
-use lib.Dec.{ltb}
 use lib.ListN.{length}
-use borrow.Author.Tests.{lt-ltb, le-ltb, ltb-false}
+use borrow.Author.Tests.{lt-ltb, le-ltb}
 use Rattle.pattern.specs.Lists.{Each}
-use Rattle.pattern.specs.Meaning.{Range, Join, all, any, allShuffled, anyShuffled, Fragment, Kind, once, repeated, timed, fragmentNames, orderingNames, Rule, Between, WellFormed}
+use Rattle.pattern.specs.Meaning.{Range, Join, all, any, allShuffled, anyShuffled, Fragment, Kind, once, repeated, timed, fragmentNames, Rule, Between, WellFormed}
 use Rattle.pattern.specs.Judge.{Observation}
 use Rattle.pattern.specs.Before.{Bounded, PlainFragment, PlainKind, PlainRule}
 use Rattle.pattern.specs.Before as Before
 use Rattle.pattern.proofs.Plain.{plain-agreement}
-use Rattle.names.specs.Names.{insertAll}
-use Rattle.layout.specs.Terms.{noFault, Terms, base, today}
-use Rattle.layout.specs.Layout.{Sheet, Header, joinNumber, inQ, Directed, EndAllowed, Allowed, WellFormedRule, WellFormedSheet, Bytes}
-use Rattle.layout.specs.Form.{Form, done, _>>=_, ask, Got, next, number, fieldAt, read}
-use Rattle.layout.specs.Reading.{outside, markFault, mostFault, versionFault, rulesFault, kindFault, joinFault, nameFault, triggerSet, rangeName, range}
-use Rattle.layout.specs.Reading.{ranges, fragment, fragments, header, rule, rules, sheet, HasVersion, accepted, readSheetOn, readSheet}
-use Rattle.layout.proofs.Alike.{SameOr, Alike, and-after, bind, several-alike, Apart, EqualOrApart, read-alike}
-use Rattle.layout.proofs.Parts.{made}
-use Rattle.layout.proofs.FirstFault.{AtField, is-right, has-fault, at-field}
+use Rattle.layout.specs.Terms.{Terms, base, withEndless, today}
+use Rattle.layout.specs.Layout.{Sheet, joinNumber, inQ, Directed, EndAllowed, Allowed, WellFormedRule, WellFormedSheet, Bytes}
+use Rattle.layout.specs.Faults.{outside, versionFault, sizeOf, faultOf}
+use Rattle.layout.specs.Faults.{Field, markField, versionField, outputsField, ruleCountField, kindField, countPField, countQField, triggerField, timeField, joinField, rangeCountField, nameField, uField, vField}
+use Rattle.layout.specs.Form.{Form, done, _>>=_, ask, number, valueAt, ComesTo}
+use Rattle.layout.specs.Reading.{rangeName, range, ranges, fragment, fragments, header, rule, rules, sheet, HasVersion, accepted, readSheetOn, readSheet}
+use Rattle.layout.proofs.Parting.{Part, Same, parts, same-reads, Every, every-bind, every-several, every-comes}
+use Rattle.layout.proofs.Values.{outside-faultless}
 use Rattle.layout.proofs.Acceptance.{accepted-is-encoded}
 use Rattle.layout.proofs.Accepted.{accepted-rules}
 
--- ---- two terms and a version
+-- ---- the version's field, and the fields whose faults go by it
 
 -- the fields after the version's
-abbrev body : Terms → ℕ → Form Sheet
-body T version = do
-  o ← ask 8 noFault
-  n ← ask 1 (rulesFault T)
-  rs ← rules T version o n
+abbrev body : ℕ → Form Sheet
+body version = do
+  o ← ask outputsField
+  n ← ask ruleCountField
+  rs ← rules version o n
   done (record { version = version; outputs = o; rules = rs })
 
--- R relates the faults that a value may have on the one terms and on the other
-module _ (R : (size value old new : ℕ) → Type 0) where
-  -- the terms say the same of a version but for R: at each field that goes by the terms, a value has the same fault on both, or R relates the two
-  pub record AlikeFor (T U : Terms) (version : ℕ) : Type 0 where
-    pub kinds : (k : ℕ) → SameOr R 1 k (kindFault T version k) (kindFault U version k)
-    pub joins : (j : ℕ) → SameOr R 1 j (joinFault T version j) (joinFault U version j)
-    pub names : (outputs : ℕ) (ofQ : Bool) (used n : ℕ) → SameOr R 1 n (nameFault T outputs ofQ used n) (nameFault U outputs ofQ used n)
-    pub ends : (u v : ℕ) → SameOr R 2 v (mostFault (T .endless version) u v) (mostFault (U .endless version) u v)
-    pub rules : (n : ℕ) → SameOr R 1 n (rulesFault T n) (rulesFault U n)
+module _ (T : Terms) (s : List ℕ) where
+  -- these bytes have this version, and the terms have it
+  abbrev pub Known : ℕ → Type 0
+  Known version = HasVersion version s × (versionFault T version ≡ 0)
 
-  module _ {T U : Terms} {version : ℕ} (like : AlikeFor T U version) where
-    module _ (outputs : ℕ) (ofQ : Bool) where
-      abbrev rangesOn : Terms → ℕ → ℕ → Form (List Range)
-      rangesOn X used n = ranges X version outputs ofQ used n
+  -- a field after the version's: if its faults go by a version, then by this one
+  abbrev pub AfterVersion : Field → Type 0
+  AfterVersion markField = Unit {0}
+  AfterVersion versionField = ⊥
+  AfterVersion outputsField = Unit {0}
+  AfterVersion ruleCountField = Unit {0}
+  AfterVersion (kindField version) = Known version
+  AfterVersion countPField = Unit {0}
+  AfterVersion (countQField kind) = Unit {0}
+  AfterVersion (triggerField kind outputs) = Unit {0}
+  AfterVersion (timeField kind) = Unit {0}
+  AfterVersion (joinField version) = Known version
+  AfterVersion rangeCountField = Unit {0}
+  AfterVersion (nameField outputs ofQ used) = Unit {0}
+  AfterVersion uField = Unit {0}
+  AfterVersion (vField version u) = Known version
 
-      range-alike : (used : ℕ) → Alike R (range T version outputs ofQ used) (range U version outputs ofQ used)
+  module _ (version : ℕ) (known : Known version) (outputs : ℕ) where
+    module _ (ofQ : Bool) where
+      range-after : (used : ℕ) → Every AfterVersion (range version outputs ofQ used)
       unfolding range
-      range-alike used = (refl, λ n. and-after R (like .names outputs ofQ used n) (refl, λ u. inl (refl, (refl, λ v. and-after R (like .ends u v) refl))))
+      range-after used = (tt, λ n. (tt, λ u. (known, λ v. tt)))
 
-      ranges-alike : (used n : ℕ) → Alike R (rangesOn T used n) (rangesOn U used n)
+      ranges-after : (n used : ℕ) → Every AfterVersion (ranges version outputs ofQ used n)
       unfolding ranges
-      ranges-alike used n = several-alike R (range T version outputs ofQ) (range U version outputs ofQ) rangeName range-alike n used
+      ranges-after = every-several AfterVersion (range version outputs ofQ) rangeName range-after
 
-      fragment-alike : (used : ℕ) → Alike R (fragment T version outputs ofQ used) (fragment U version outputs ofQ used)
+      fragment-after : (used : ℕ) → Every AfterVersion (fragment version outputs ofQ used)
       unfolding fragment
-      fragment-alike used =
-          (refl, λ j. and-after R (like .joins j) (refl, λ n. inl (refl, bind R (rangesOn T used n) (rangesOn U used n) _ _ (ranges-alike used n) (λ rs. refl))))
+      fragment-after used = (known, λ j. (tt, λ n. every-bind AfterVersion (ranges version outputs ofQ used n) _ (ranges-after n used) (λ rs. tt)))
 
-      fragments-alike : (used n : ℕ) → Alike R (fragments T version outputs ofQ used n) (fragments U version outputs ofQ used n)
+      fragments-after : (used n : ℕ) → Every AfterVersion (fragments version outputs ofQ used n)
       unfolding fragments
-      fragments-alike used n = several-alike R (fragment T version outputs ofQ) (fragment U version outputs ofQ) fragmentNames fragment-alike n used
+      fragments-after used n = every-several AfterVersion (fragment version outputs ofQ) fragmentNames fragment-after n used
 
-    module _ (outputs : ℕ) where
-      header-alike : Alike R (header T version outputs) (header U version outputs)
-      unfolding header
-      header-alike = (refl, λ k. and-after R (like .kinds k) (refl, λ p. inl (refl, (refl, λ q. inl (refl, (refl, λ i. inl (refl, (refl, λ t. inl (refl, refl)))))))))
+    header-after : Every AfterVersion (header version outputs)
+    unfolding header
+    header-after = (known, λ k. (tt, λ p. (tt, λ q. (tt, λ i. (tt, λ t. tt)))))
 
-      rule-alike : Alike R (rule T version outputs) (rule U version outputs)
-      unfolding rule
-      rule-alike = bind R (header T version outputs) (header U version outputs) _ _ header-alike after
-        where
-          pOf : Terms → Header → Form (List Fragment)
-          pOf X h = fragments X version outputs false (triggerSet h) (h .countP)
+    rule-after : Every AfterVersion (rule version outputs)
+    unfolding rule
+    rule-after =
+        every-bind AfterVersion (header version outputs) _ header-after
+        (λ h. every-bind AfterVersion (fragments version outputs false _ _) _ (fragments-after false _ _)
+        (λ p. every-bind AfterVersion (fragments version outputs true _ _) _ (fragments-after true _ _) (λ q. tt)))
 
-          qOf : Terms → Header → List Fragment → Form (List Fragment)
-          qOf X h p = fragments X version outputs true (insertAll (triggerSet h) (orderingNames p)) (h .countQ)
+    rules-after : (n : ℕ) → Every AfterVersion (rules version outputs n)
+    unfolding rules
+    rules-after n = every-several AfterVersion (λ _. rule version outputs) _ (λ used. rule-after) n 0
 
-          after : (h : Header) → Alike R (pOf T h >>= (λ p. qOf T h p >>= (λ q. done (made h p q)))) (pOf U h >>= (λ p. qOf U h p >>= (λ q. done (made h p q))))
-          after h = bind R (pOf T h) (pOf U h) _ _ (fragments-alike outputs false _ _) (λ p. bind R (qOf T h p) (qOf U h p) _ _ (fragments-alike outputs true _ _) (λ q. refl))
+  -- the version's field is at place 3, and stands nowhere else
+  abbrev pub Placed : Field → ℕ → Type 0
+  Placed l place = ((l ≡ versionField) × (place ≡ 3)) ⊎ AfterVersion l
 
-      rules-alike : (n : ℕ) → Alike R (rules T version outputs n) (rules U version outputs n)
-      unfolding rules
-      rules-alike n = several-alike R (λ _. rule T version outputs) (λ _. rule U version outputs) _ (λ used. rule-alike) n 0
+  pub placed : (l : Field) (place : ℕ) → ComesTo T s sheet 0 l place → Placed l place
+  unfolding sheet
+  placed l place (inl (here, same)) = inr (subst AfterVersion same tt)
+  placed l place (inr (r, inl (here, same))) = inl (sym same, here)
+  placed l place (inr (r, inr (q, c))) =
+      let version : ℕ = number s 2 3 in
+      let known : Known version = ((q .fits, refl), q .faultless) in
+      inr (every-comes AfterVersion T s (body version) 5 l place (tt, λ o. (tt, λ n. every-bind AfterVersion (rules version o n) _ (rules-after version known o n) (λ rs. tt))) c)
 
-    body-alike : Alike R (body T version) (body U version)
-    body-alike = (refl, λ o. inl (refl, (refl, λ n. and-after R (like .rules n) (bind R (rules T version o n) (rules U version o n) _ _ (rules-alike o n) (λ rs. refl)))))
+-- ---- two terms
 
--- ---- two readings of the same bytes
+module _ (T U : Terms) (s : List ℕ) (P : Field → ℕ → Type 0) where
+  -- a value of a field has the same fault on both, or P holds
+  abbrev pub SameOr : Field → ℕ → Type 0
+  SameOr l x = (faultOf T l x ≡ faultOf U l x) ⊎ P l x
 
--- two fields of one size at one place, whose faults are the same where the field fits
-field-same : (s : List ℕ) (n at : ℕ) (f g : ℕ → ℕ) → (at + n ≤ length s → f (number s n at) ≡ g (number s n at)) → fieldAt s n f at ≡ fieldAt s n g at
-unfolding fieldAt
-field-same s n at f g h = look (ltb (length s) (at + n)) refl
-  where
-    look : (b : Bool) → ltb (length s) (at + n) ≡ b → fieldAt s n f at ≡ fieldAt s n g at
-    look true t = rw t
-    look false t = rw (t, h (ltb-false (length s) (at + n) t))
-
-module _ (R : (size value old new : ℕ) → Type 0) (T U : Terms) (s : List ℕ) where
-  -- the terms say the same of these bytes' version but for R: it has the same fault, and if it has none the terms say the same of a sheet of this version
-  pub record AlikeVersion : Type 0 where
-    pub fault : 5 ≤ length s → versionFault T (number s 2 3) ≡ versionFault U (number s 2 3)
-    pub after : 5 ≤ length s → versionFault T (number s 2 3) ≡ 0 → AlikeFor R T U (number s 2 3)
+  -- so it is at each field that goes by the terms
+  pub record AlikeBut : Type 0 where
+    pub versions : (x : ℕ) → SameOr versionField x
+    pub rules : (x : ℕ) → SameOr ruleCountField x
+    pub kinds : (version : ℕ) → Known U s version → (x : ℕ) → SameOr (kindField version) x
+    pub joins : (version : ℕ) → Known U s version → (x : ℕ) → SameOr (joinField version) x
+    pub names : (outputs : ℕ) (ofQ : Bool) (used x : ℕ) → SameOr (nameField outputs ofQ used) x
+    pub ends : (version : ℕ) → Known U s version → (u x : ℕ) → SameOr (vField version u) x
     pub bytes : T .bytes (length s) ≡ U .bytes (length s)
 
-  module _ (like : AlikeVersion) where
-    -- the reading from the version's field on: that field on the one terms, and those after it on the other
-    abbrev fromVersion : Terms → Terms → Got Sheet
-    fromVersion X Y = next (fieldAt s 2 (versionFault X) 3) (λ v. read s (body Y v))
+  module _ (like : AlikeBut) where
+    -- and so at each field
+    alike : (l : Field) (place x : ℕ) → Placed U s l place → SameOr l x
+    alike markField place x p = inl refl
+    alike versionField place x p = like .versions x
+    alike outputsField place x p = inl refl
+    alike ruleCountField place x p = like .rules x
+    alike (kindField version) place x (inl (e, here)) = absurd (let z : _≡_ {A = ℕ} 0 1 = cc e in omega arith)
+    alike (kindField version) place x (inr known) = like .kinds version known x
+    alike countPField place x p = inl refl
+    alike (countQField kind) place x p = inl refl
+    alike (triggerField kind outputs) place x p = inl refl
+    alike (timeField kind) place x p = inl refl
+    alike (joinField version) place x (inl (e, here)) = absurd (let z : _≡_ {A = ℕ} 0 1 = cc e in omega arith)
+    alike (joinField version) place x (inr known) = like .joins version known x
+    alike rangeCountField place x p = inl refl
+    alike (nameField outputs ofQ used) place x p = like .names outputs ofQ used x
+    alike uField place x p = inl refl
+    alike (vField version u) place x (inl (e, here)) = absurd (let z : _≡_ {A = ℕ} 0 1 = cc e in omega arith)
+    alike (vField version u) place x (inr known) = like .ends version known u x
 
-    version-alike : EqualOrApart R s (fromVersion T T) (fromVersion U U)
-    version-alike =
-        subst (λ (g : Got ℕ). EqualOrApart R s (fromVersion T T) (next g (λ v. read s (body U v)))) (field-same s 2 3 (versionFault T) (versionFault U) (like .fault))
-        (look (at-field s 2 (versionFault T) 3))
+    -- the readings part at a field of which P holds, or nowhere
+    pub alike-but : Same T U s sheet 0 ⊎ ((p : Part T U s sheet 0) × P (p .which) (valueAt s (p .which) (p .place)))
+    alike-but = look (parts T U s sheet 0)
       where
-        look : AtField s 2 (versionFault T) 3 → EqualOrApart R s (fromVersion T T) (fromVersion T U)
-        look (is-right r e) = rw e (read-alike R s (body T (number s 2 3)) (body U (number s 2 3)) (body-alike R (like .after (r .fits) (r .faultless))) 5)
-        look (has-fault k h e) = inl (rw e)
+        differs : (p : Part T U s sheet 0) → SameOr (p .which) (valueAt s (p .which) (p .place)) → P (p .which) (valueAt s (p .which) (p .place))
+        differs p (inl e) = absurd (p .differ e)
+        differs p (inr h) = h
 
-    sheet-alike : EqualOrApart R s (read s (sheet T) 0) (read s (sheet U) 0)
-    unfolding sheet
-    sheet-alike = look (at-field s 3 markFault 0)
-      where
-        look : AtField s 3 markFault 0 → EqualOrApart R s (read s (sheet T) 0) (read s (sheet U) 0)
-        look (is-right r e) = rw e version-alike
-        look (has-fault k h e) = inl (rw e)
+        look : Same T U s sheet 0 ⊎ Part T U s sheet 0 → Same T U s sheet 0 ⊎ ((p : Part T U s sheet 0) × P (p .which) (valueAt s (p .which) (p .place)))
+        look (inl same) = inl same
+        look (inr p) = inr (p, differs p (alike (p .which) (p .place) (valueAt s (p .which) (p .place)) (placed U s (p .which) (p .place) (p .other))))
 
-    -- these bytes get the same answer on both, or the readings part at a value whose faults R relates
-    pub alike-answers : (readSheetOn T s ≡ readSheetOn U s) ⊎ Apart R s (read s (sheet T) 0) (read s (sheet U) 0)
+    -- and then these bytes get the same answer on both
+    pub same-answer : Same T U s sheet 0 → readSheetOn T s ≡ readSheetOn U s
     unfolding readSheetOn
-    alike-answers = look sheet-alike
-      where
-        look : EqualOrApart R s (read s (sheet T) 0) (read s (sheet U) 0) → (readSheetOn T s ≡ readSheetOn U s) ⊎ Apart R s (read s (sheet T) 0) (read s (sheet U) 0)
-        look (inl e) = inl (rw (like .bytes, e))
-        look (inr apart) = inr apart
-
--- no value has other faults on the one terms than on the other
-abbrev pub Never : (size value old new : ℕ) → Type 0
-Never size value old new = ⊥
-
--- so both give the same answer
-pub same-answer : (T U : Terms) (s : List ℕ) → AlikeVersion Never T U s → readSheetOn T s ≡ readSheetOn U s
-same-answer T U s like = look (alike-answers Never T U s like)
-  where
-    look : (readSheetOn T s ≡ readSheetOn U s) ⊎ Apart Never s (read s (sheet T) 0) (read s (sheet U) 0) → readSheetOn T s ≡ readSheetOn U s
-    look (inl e) = e
-    look (inr apart) = absurd (apart .by)
+    same-answer same = rw (like .bytes, same-reads T U s sheet 0 same)
 
 -- ---- change 1
 
@@ -163,23 +166,42 @@ above : (newest x : ℕ) → 0 < newest → newest < x → outside 3 1 newest x 
 above newest x some h = rw (le-ltb x 1 (omega (arith, some, h)), lt-ltb newest x h)
 
 -- "Version 1 sheets read as before": what document 01's terms answered stays for all bytes but those whose version is 2
-pub other-versions-stay : (s : List ℕ) → ¬ HasVersion 2 s → readSheet s ≡ readSheetOn base s
-other-versions-stay s other = same-answer today base s (record { fault = λ fits. fault x (λ e. other (fits, e)); after = λ fits. after x (λ e. other (fits, e)); bytes = refl })
+pub other-versions-stay : (s : List ℕ) → ¬ HasVersion 2 s → readSheetOn withEndless s ≡ readSheetOn base s
+other-versions-stay s other = look (alike-but withEndless base s Two like)
   where
-    x : ℕ
-    x = number s 2 3
+    -- the version's field, with version 2
+    Two : Field → ℕ → Type 0
+    Two l x = (l ≡ versionField) × (x ≡ 2)
 
-    fault : (x : ℕ) → ¬ (x ≡ 2) → versionFault today x ≡ versionFault base x
-    fault zero other = refl
-    fault (suc zero) other = refl
-    fault (suc (suc zero)) other = absurd (other refl)
-    fault (suc (suc (suc x))) other = above (today .newest) (suc (suc (suc x))) (omega arith) (omega arith) ∙ sym (above (base .newest) (suc (suc (suc x))) (omega arith) (omega arith))
+    one : (version : ℕ) → versionFault base version ≡ 0 → version ≡ 1
+    one version z = omega (arith, outside-faultless 2 1 1 version z)
 
-    after : (x : ℕ) → ¬ (x ≡ 2) → versionFault today x ≡ 0 → AlikeFor Never today base x
-    after zero other z = absurd (omega (arith, z))
-    after (suc zero) other z = record { kinds = λ k. inl refl; joins = λ j. inl refl; names = λ outputs ofQ used n. inl refl; ends = λ u v. inl refl; rules = λ n. inl refl }
-    after (suc (suc zero)) other z = absurd (other refl)
-    after (suc (suc (suc x))) other z = absurd (omega (arith, sym (above (today .newest) (suc (suc (suc x))) (omega arith) (omega arith)) ∙ z))
+    versions : (x : ℕ) → SameOr withEndless base s Two versionField x
+    versions zero = inl refl
+    versions (suc zero) = inl refl
+    versions (suc (suc zero)) = inr (refl, refl)
+    versions (suc (suc (suc x))) = inl (above (withEndless .newest) (suc (suc (suc x))) (omega arith) (omega arith) ∙ sym (above (base .newest) (suc (suc (suc x))) (omega arith) (omega arith)))
+
+    like : AlikeBut withEndless base s Two
+    like = record {
+      versions = versions;
+      rules = λ x. inl refl;
+      kinds = λ version known x. inl refl;
+      joins = λ version known x. inl (rw (one version (known .1)));
+      names = λ outputs ofQ used x. inl refl;
+      ends = λ version known u x. inl (rw (one version (known .1)));
+      bytes = refl;
+    }
+
+    look : Same withEndless base s sheet 0 ⊎ ((p : Part withEndless base s sheet 0) × Two (p .which) (valueAt s (p .which) (p .place))) → readSheetOn withEndless s ≡ readSheetOn base s
+    look (inl same) = same-answer withEndless base s Two like same
+    look (inr (p, (l, two))) = absurd (there (placed base s (p .which) (p .place) (p .other)))
+      where
+        there : Placed base s (p .which) (p .place) → ⊥
+        there (inl (e, here)) =
+            let fits : p .place + 2 ≤ length s = subst (λ (x : Field). p .place + sizeOf x ≤ length s) l (p .fits) in
+            other (omega (arith, fits, here), subst (λ (i : ℕ). number s 2 i ≡ 2) here (subst (λ (x : Field). valueAt s x (p .place) ≡ 2) l two))
+        there (inr after) = subst (AfterVersion base s) l after
 
 -- "refusal 3 is for versions other than 1 and 2"
 pub one-or-two : (S : Sheet) → WellFormedSheet S → (S .version ≡ 1) ⊎ (S .version ≡ 2)

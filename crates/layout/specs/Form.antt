@@ -1,5 +1,5 @@
--- A form: fields one after the other, each with its size, with the faults that its value may have, and with what comes after it, which may go by the value.
--- A form is read from an offset on, field by field: a value and the offset after it, or the number and the place of the first fault.
+-- A form: fields one after the other, and what comes after each, which may go by its value.
+-- A form is read from an offset on, field by field: a value and the offset after it, or the number and the place of the first fault. What is a fault, the terms say.
 -- Assumes nothing.
 use mathlib.Core.Path.{_≡_}
 use mathlib.Core.Logic.{_⊎_}
@@ -8,22 +8,23 @@ use mathlib.Core.List.{List}
 use Prim.Native.Nat.{ℕ, zero, suc, _+_, _*_, _<_, _≤_}
 use lib.Dec.{ltb}
 use lib.ListN.{length, getD}
+use Rattle.layout.specs.Terms.{Terms}
+use Rattle.layout.specs.Faults.{Field, sizeOf, faultOf}
 
 pub data Form (A : Type 0) : Type 0 where
   -- no field more
   done : A → Form A
-  -- a field of some bytes; `fault` is the number of the first fault that a value has, or 0
-  field : (size : ℕ) (fault : ℕ → ℕ) (after : ℕ → Form A) → Form A
+  field : Field → (after : ℕ → Form A) → Form A
 
 -- one form after another
 infixl 20 _>>=_
 abbrev pub _>>=_ : {A B : Type 0} → Form A → (A → Form B) → Form B
 _>>=_ (done a) f = f a
-_>>=_ (field size fault after) f = field size fault (λ x. after x >>= f)
+_>>=_ (field l after) f = field l (λ x. after x >>= f)
 
 -- one field
-abbrev pub ask : ℕ → (ℕ → ℕ) → Form ℕ
-ask size fault = field size fault done
+abbrev pub ask : Field → Form ℕ
+ask l = field l done
 
 -- ---- reading
 
@@ -52,24 +53,33 @@ module _ (s : List ℕ) where
   unfoldable pub fieldAt : ℕ → (ℕ → ℕ) → ℕ → Got ℕ
   fieldAt n fault at = cond (ltb (length s) (at + n)) (stopped 1 at) (unless (fault (number n at)) (number n at) (at + n) at)
 
+  -- the value of a field at an offset
+  abbrev pub valueAt : Field → ℕ → ℕ
+  valueAt l at = number (sizeOf l) at
+
+module _ (T : Terms) (s : List ℕ) where
   abbrev pub read : {A : Type 0} → Form A → ℕ → Got A
   read (done a) at = got a at
-  read (field n fault after) at = next (fieldAt n fault at) (λ x. read (after x))
+  read (field l after) at = next (fieldAt s (sizeOf l) (faultOf T l) at) (λ x. read (after x))
 
   -- ---- "the first faulty field decides"
 
   -- a field at an offset is right: it fits in the bytes left, and its value has no fault
-  pub record RightField (n : ℕ) (fault : ℕ → ℕ) (at : ℕ) : Type 0 where
-    pub fits : at + n ≤ length s
-    pub faultless : fault (number n at) ≡ 0
+  pub record RightField (l : Field) (at : ℕ) : Type 0 where
+    pub fits : at + sizeOf l ≤ length s
+    pub faultless : faultOf T l (valueAt s l at) ≡ 0
 
-  -- a field has the fault of this number: it does not fit, or it does and its value has the fault
-  abbrev pub HasFault : ℕ → (ℕ → ℕ) → ℕ → ℕ → Type 0
-  HasFault n fault at k = ((length s < at + n) × (k ≡ 1)) ⊎ ((at + n ≤ length s) × (fault (number n at) ≡ k) × (0 < k))
+  -- it has the fault of this number: it does not fit, or it does and its value has the fault
+  abbrev pub HasFault : Field → ℕ → ℕ → Type 0
+  HasFault l at k = ((length s < at + sizeOf l) × (k ≡ 1)) ⊎ ((at + sizeOf l ≤ length s) × (faultOf T l (valueAt s l at) ≡ k) × (0 < k))
 
-  -- a form's first fault from an offset on: the first field has it, at its own place; or that one is right, and the first fault is that of the fields after it.
-  -- Where every field is right there is none
-  abbrev pub FirstFault : {A : Type 0} → Form A → (at number place : ℕ) → Type 0
-  FirstFault (done a) at k place = ⊥
-  FirstFault (field n fault after) at k place =
-      ((place ≡ at) × HasFault n fault at k) ⊎ (RightField n fault at × FirstFault (after (number n at)) (at + n) k place)
+  -- a form read from an offset on comes to a field at a place: that is its first; or its first is right, and the fields after it come to that one
+  abbrev pub ComesTo : {A : Type 0} → Form A → (at : ℕ) → Field → (place : ℕ) → Type 0
+  ComesTo (done a) at l place = ⊥
+  ComesTo (field first after) at l place = ((place ≡ at) × (first ≡ l)) ⊎ (RightField first at × ComesTo (after (valueAt s first at)) (at + sizeOf first) l place)
+
+  -- its first fault: that of a field to which it comes, all fields before being right
+  pub record FirstFault {A : Type 0} (m : Form A) (at k place : ℕ) : Type 0 where
+    pub which : Field
+    pub comes : ComesTo m at which place
+    pub has : HasFault which place k

@@ -1,5 +1,6 @@
 pub mod Terms
 pub mod Layout
+pub mod Faults
 pub mod Form
 pub mod Reading
 pub mod Examples

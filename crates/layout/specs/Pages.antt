@@ -8,7 +8,7 @@ use Rattle.bits.specs.Bits.{over}
 use Rattle.pattern.specs.Meaning.{Range, Fragment, timed, Rule}
 use Rattle.pattern.specs.Model.{triggerFragment, roundOf, fragmentAt}
 use Rattle.layout.specs.Layout.{Header, headerOf, joinNumber}
-use Rattle.layout.specs.Reading.{byKind}
+use Rattle.layout.specs.Faults.{byKind}
 
 -- ---- a part as one number: its own bytes, little-endian
 

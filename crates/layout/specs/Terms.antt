@@ -1,6 +1,6 @@
 -- The terms on which a sheet is read: which versions there are and what each allows, what a caller allows, and the order of the faults at a range's name. The format, the reading and what is
 -- well-formed are defined over any terms. Today's are one value; terms of before a change are another, so that what the change affects is a statement about two readings
--- (`read-alike`, `other-versions-stay`, `endless-alone-changes`).
+-- (`parts`, `other-versions-stay`, `endless-alone-changes`).
 -- Assumes nothing.
 use mathlib.Core.Path.{_≡_}
 use mathlib.Core.Bool.{Bool, false, cond, not}
@@ -65,8 +65,8 @@ abbrev pub firstEndless : ℕ
 firstEndless = 2
 
 -- with change 2
-abbrev pub today : Terms
-today = record {
+abbrev pub withEndless : Terms
+withEndless = record {
   newest = withShuffles .newest;
   firstKind = withShuffles .firstKind;
   lastJoin = withShuffles .lastJoin;
@@ -75,6 +75,9 @@ today = record {
   mostRules = withShuffles .mostRules;
   inOrder = withShuffles .inOrder;
 }
+
+abbrev pub today : Terms
+today = withEndless
 
 -- terms that let in no more than rules mean and fields hold: no join that the meaning does not have, versions of 16 bits, rules for 16 of which there is room, and at a name the three faults
 pub record Covered (T : Terms) : Type 0 where

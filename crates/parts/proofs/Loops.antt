@@ -10,6 +10,7 @@ use lib.Seq.{append-snoc}
 use Rattle.pattern.specs.Meaning.{Range, Fragment, fragmentNames, orderingNames}
 use Rattle.names.specs.Names.{insert, insertAll}
 use Rattle.layout.specs.Layout.{each}
+use Rattle.layout.specs.Terms.{today}
 use Rattle.layout.specs.Form.{Form, Got, got, stopped, next, read}
 use Rattle.layout.specs.Reading.{several, rangeName}
 use Rattle.layout.specs.Pages.{fill}
@@ -64,38 +65,38 @@ module _ {A : Type 0} (s : List ℕ) (one : ℕ → Form A) (names : A → List 
       pub inside : at ≤ length s
       pub many : length xs ≡ i
       pub set′ : used ≡ insertAll before (each names xs)
-      pub rest : read s (several one names before count) from ≡ after xs (read s (several one names used (count - i)) at)
+      pub rest : read today s (several one names before count) from ≡ after xs (read today s (several one names used (count - i)) at)
 
     pub begin : from ≤ length s → SoFar before 0 from []
     begin h = record { few = zero-le; inside = h; many = refl; set′ = refl; rest = rw sub-zero (sym (after-nil _)) }
 
-    pub finish : {used i at : ℕ} {xs : List A} → SoFar used i at xs → count ≤ i → read s (several one names before count) from ≡ got xs at
+    pub finish : {used i at : ℕ} {xs : List A} → SoFar used i at xs → count ≤ i → read today s (several one names before count) from ≡ got xs at
     unfolding several
     finish {used} {i} {at} {xs} f h =
         let z : count - i ≡ 0 = omega arith in
         f .rest ∙ rw z (ap (λ (ys : List A). got ys at) (append-nil xs))
 
     module _ {used i at : ℕ} {xs : List A} (f : SoFar used i at xs) (h : i < count) where
-      turn : {g : Got A} → read s (one used) at ≡ g
-          → read s (several one names before count) from
-          ≡ after xs (next g (λ x j. next (read s (several one names (insertAll used (names x)) (count - (i + 1))) j) (λ ys l. got (x ∷ ys) l)))
+      turn : {g : Got A} → read today s (one used) at ≡ g
+          → read today s (several one names before count) from
+          ≡ after xs (next g (λ x j. next (read today s (several one names (insertAll used (names x)) (count - (i + 1))) j) (λ ys l. got (x ∷ ys) l)))
       turn {g} e =
           let m : ℕ = count - (i + 1) in
           let more : count - i ≡ suc m = omega (arith, h) in
-          let rest : read s (several one names used (count - i)) at
-          ≡ next g (λ x j. next (read s (several one names (insertAll used (names x)) m) j) (λ ys l. got (x ∷ ys) l))
-          = rw more (read-several s one names used m at ∙ rw e) in
+          let rest : read today s (several one names used (count - i)) at
+          ≡ next g (λ x j. next (read today s (several one names (insertAll used (names x)) m) j) (λ ys l. got (x ∷ ys) l))
+          = rw more (read-several today s one names used m at ∙ rw e) in
           f .rest ∙ ap (after xs) rest
 
-      pub fail : {k place : ℕ} → read s (one used) at ≡ stopped k place → read s (several one names before count) from ≡ stopped k place
+      pub fail : {k place : ℕ} → read today s (one used) at ≡ stopped k place → read today s (several one names before count) from ≡ stopped k place
       fail e = turn e
 
-      pub more : {x : A} {end used′ : ℕ} → read s (one used) at ≡ got x end → end ≤ length s → used′ ≡ insertAll used (names x)
+      pub more : {x : A} {end used′ : ℕ} → read today s (one used) at ≡ got x end → end ≤ length s → used′ ≡ insertAll used (names x)
           → SoFar used′ (i + 1) end (xs ++ (x ∷ []))
       more {x} {end} {used′} e l u = record {
         few = omega (arith, h);
         inside = l;
         many = length-append xs (x ∷ []) ∙ ap (_+ 1) (f .many);
         set′ = u ∙ ap (λ (w : ℕ). insertAll w (names x)) (f .set′) ∙ sym (insertAll-append before (each names xs) (names x)) ∙ ap (insertAll before) (sym (each-snoc xs x));
-        rest = rw u (turn e ∙ after-snoc xs x (read s (several one names (insertAll used (names x)) (count - (i + 1))) end));
+        rest = rw u (turn e ∙ after-snoc xs x (read today s (several one names (insertAll used (names x)) (count - (i + 1))) end));
       }

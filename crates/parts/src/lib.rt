@@ -6,7 +6,8 @@ ghost use lib.ListN.{length};
 ghost use Rattle.names.specs.Names.{insert};
 ghost use Rattle.layout.specs.Form.{read};
 ghost use Rattle.layout.specs.Terms.{today};
-ghost use Rattle.layout.specs.Reading.{byKind, range, ranges, fragment, fragments, header, rule, rules};
+ghost use Rattle.layout.specs.Faults.{byKind};
+ghost use Rattle.layout.specs.Reading.{range, ranges, fragment, fragments, header, rule, rules};
 ghost use Rattle.layout.specs.Pages.{triggerFragments};
 ghost use Rattle.fields.specs.Told.{Told};
 ghost use Rattle.parts.specs.Shown.{RangeShown, RangesShown, FragmentShown, FragmentsShown, Stored, HeaderShown, RuleShown, RulesShown};
@@ -48,7 +49,7 @@ fn range(
     k: usize,
 ) -> Step
     requires { ⌜ (from ≤ length (now s)) × (k < 2048) ⌝ }
-    ensures { λ r. ⌜ Told (now (s .entry)) (r .fault) (r .at) (RangeShown before (r .used) k (now (table .entry)) (now (table .exit))) (read (now (s .entry)) (range today version outputs «of_q» before) from) ⌝ }
+    ensures { λ r. ⌜ Told (now (s .entry)) (r .fault) (r .at) (RangeShown before (r .used) k (now (table .entry)) (now (table .exit))) (read today (now (s .entry)) (range version outputs «of_q» before) from) ⌝ }
 {
     let n = fields::name_field(s, from, outputs, of_q, before);
     if n.fault != 0 {
@@ -84,7 +85,7 @@ fn ranges(
     base: usize,
 ) -> Step
     requires { ⌜ (from ≤ length (now s)) × (base + count ≤ 2048) ⌝ }
-    ensures { λ r. ⌜ Told (now (s .entry)) (r .fault) (r .at) (RangesShown before (r .used) base (now (table .entry)) (now (table .exit))) (read (now (s .entry)) (ranges today version outputs «of_q» before count) from) ⌝ }
+    ensures { λ r. ⌜ Told (now (s .entry)) (r .fault) (r .at) (RangesShown before (r .used) base (now (table .entry)) (now (table .exit))) (read today (now (s .entry)) (ranges version outputs «of_q» before count) from) ⌝ }
 {
     let mut at = from;
     let mut used = before;
@@ -126,7 +127,7 @@ fn fragment<'a>(
     k: usize,
 ) -> Step
     requires { ⌜ (from ≤ length (now s)) × (k < 256) ⌝ }
-    ensures { λ r. ⌜ Told (now (s .entry)) (r .fault) (r .at) (FragmentShown before (r .used) k (now (words .entry)) (now (words .exit)) (now (table .entry)) (now (table .exit))) (read (now (s .entry)) (fragment today version outputs «of_q» before) from) ⌝ }
+    ensures { λ r. ⌜ Told (now (s .entry)) (r .fault) (r .at) (FragmentShown before (r .used) k (now (words .entry)) (now (words .exit)) (now (table .entry)) (now (table .exit))) (read today (now (s .entry)) (fragment version outputs «of_q» before) from) ⌝ }
 {
     let j = fields::join(s, from, version);
     if j.fault != 0 {
@@ -164,7 +165,7 @@ fn fragments<'a>(
     first: usize,
 ) -> Step
     requires { ⌜ (from ≤ length (now s)) × (first + count ≤ 256) ⌝ }
-    ensures { λ r. ⌜ Told (now (s .entry)) (r .fault) (r .at) (FragmentsShown before (r .used) first (now (words .entry)) (now (words .exit)) (now (table .entry)) (now (table .exit))) (read (now (s .entry)) (fragments today version outputs «of_q» before count) from) ⌝ }
+    ensures { λ r. ⌜ Told (now (s .entry)) (r .fault) (r .at) (FragmentsShown before (r .used) first (now (words .entry)) (now (words .exit)) (now (table .entry)) (now (table .exit))) (read today (now (s .entry)) (fragments version outputs «of_q» before count) from) ⌝ }
 {
     let mut at = from;
     let mut used = before;
@@ -233,7 +234,7 @@ fn no_heading(f: fields::Found) -> Heading
 
 fn header(s: &[u8], from: usize, version: u64, outputs: u64) -> Heading
     requires { ⌜ from ≤ length (now s) ⌝ }
-    ensures { λ r. ⌜ Told (now (s .entry)) (r .fault) (r .at) (HeaderShown (r .kind) (r .p) (r .q) (r .trigger) (r .used) (r .word)) (read (now (s .entry)) (header today version outputs) from) ⌝ }
+    ensures { λ r. ⌜ Told (now (s .entry)) (r .fault) (r .at) (HeaderShown (r .kind) (r .p) (r .q) (r .trigger) (r .used) (r .word)) (read today (now (s .entry)) (header version outputs) from) ⌝ }
 {
     let k = fields::kind(s, from, version);
     if k.fault != 0 {
@@ -299,7 +300,7 @@ fn rule<'a>(
     k: usize,
 ) -> Step
     requires { ⌜ (from ≤ length (now s)) × (k < 16) ⌝ }
-    ensures { λ r. ⌜ Told (now (s .entry)) (r .fault) (r .at) (RuleShown k (now (heads .entry)) (now (heads .exit)) (now (words .entry)) (now (words .exit)) (now (table .entry)) (now (table .exit))) (read (now (s .entry)) (rule today version outputs) from) ⌝ }
+    ensures { λ r. ⌜ Told (now (s .entry)) (r .fault) (r .at) (RuleShown k (now (heads .entry)) (now (heads .exit)) (now (words .entry)) (now (words .exit)) (now (table .entry)) (now (table .exit))) (read today (now (s .entry)) (rule version outputs) from) ⌝ }
 {
     let h = header(s, from, version, outputs);
     if h.fault != 0 {
@@ -350,7 +351,7 @@ pub fn rules<'a>(
     table: &'a mut [u64; 2048],
 ) -> Step
     requires { ⌜ (from ≤ length (now s)) × (count ≤ 16) ⌝ }
-    ensures { λ r. ⌜ Told (now (s .entry)) (r .fault) (r .at) (RulesShown (now (heads .entry)) (now (heads .exit)) (now (words .entry)) (now (words .exit)) (now (table .entry)) (now (table .exit))) (read (now (s .entry)) (rules today version outputs count) from) ⌝ }
+    ensures { λ r. ⌜ Told (now (s .entry)) (r .fault) (r .at) (RulesShown (now (heads .entry)) (now (heads .exit)) (now (words .entry)) (now (words .exit)) (now (table .entry)) (now (table .exit))) (read today (now (s .entry)) (rules version outputs count) from) ⌝ }
 {
     let mut at = from;
     let mut i = 0usize;

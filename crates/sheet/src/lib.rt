@@ -35,7 +35,7 @@ fn sheet<'a>(
     words: &'a mut [u16; 256],
     table: &'a mut [u64; 2048],
 ) -> Opening
-    ensures { λ r. ⌜ Told (now (s .entry)) (r .fault) (r .at) (SheetShown (r .version) (r .outputs) (r .count) (now (heads .entry)) (now (heads .exit)) (now (words .entry)) (now (words .exit)) (now (table .entry)) (now (table .exit))) (read (now (s .entry)) (sheet today) 0) ⌝ }
+    ensures { λ r. ⌜ Told (now (s .entry)) (r .fault) (r .at) (SheetShown (r .version) (r .outputs) (r .count) (now (heads .entry)) (now (heads .exit)) (now (words .entry)) (now (words .exit)) (now (table .entry)) (now (table .exit))) (read today (now (s .entry)) sheet 0) ⌝ }
 {
     let m = fields::exactly(s, 0, 3, 0x424F4C, 2);
     if m.fault != 0 {

@@ -7,7 +7,7 @@ use native.Mathlib.Omega.{arith}
 use lib.Dec.{ltb}
 use borrow.Author.Tests.{le-ltb, ltb-false}
 use Rattle.bits.specs.Bits.{part}
-use Rattle.layout.specs.Reading.{byKind}
+use Rattle.layout.specs.Faults.{byKind}
 use Rattle.layout.specs.Layout.{mostRanges}
 use Rattle.tables.specs.Words.{cap, kindIn, countPIn, countQIn, roundIn, countIn}
 

@@ -5,7 +5,7 @@ use Prim.Native.Nat.{ℕ, _+_, _%_}
 use lib.Dec.{ltb}
 use Rattle.bits.specs.Bits.{part}
 use Rattle.layout.specs.Layout.{mostRanges}
-use Rattle.layout.specs.Reading.{byKind}
+use Rattle.layout.specs.Faults.{byKind}
 
 -- at most so many
 abbrev pub cap : ℕ → ℕ → ℕ

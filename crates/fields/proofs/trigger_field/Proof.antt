@@ -6,7 +6,7 @@ use native.Mathlib.Omega.{arith}
 use lib.Dec.{ltb}
 use Rattle.names.specs.Names.{member}
 use Rattle.layout.specs.Terms.{today}
-use Rattle.layout.specs.Reading.{triggerFault}
+use Rattle.layout.specs.Faults.{triggerFault}
 use Rattle.layout.proofs.Values.{trigger-faultless}
 use Rattle.fields.proofs.Telling.{tested, tested-at, untested, stops-at, some, heard-number}
 use borrow.Author.Needs.{needs}

@@ -9,7 +9,8 @@ use Rattle.pattern.specs.Meaning.{Between}
 use Rattle.layout.specs.Form.{got, stopped, next, fieldAt, read}
 use Rattle.layout.specs.Terms.{today}
 use Rattle.layout.specs.Layout.{mostRanges}
-use Rattle.layout.specs.Reading.{countFault, joinFault, joinOf, ranges, fragment}
+use Rattle.layout.specs.Faults.{countFault, joinFault}
+use Rattle.layout.specs.Reading.{joinOf, ranges, fragment}
 use Rattle.fields.specs.Told.{Told, right, wrong}
 use Rattle.parts.specs.Shown.{RangesShown, FragmentShown}
 use Rattle.layout.proofs.Parts.{join-number, ranges-length, read-fragment}
@@ -20,20 +21,20 @@ use Rattle.parts.proofs.fragment.Statement.{statement}
 use Rattle.parts.proofs.fragment.Tie as tie
 
 module _ (s : List ℕ) (version outputs : ℕ) (ofQ : Bool) (before from : ℕ) where
-  stop-first : {k place : ℕ} → fieldAt s 1 (joinFault today version) from ≡ stopped k place → read s (fragment today version outputs ofQ before) from ≡ stopped k place
+  stop-first : {k place : ℕ} → fieldAt s 1 (joinFault today version) from ≡ stopped k place → read today s (fragment version outputs ofQ before) from ≡ stopped k place
   stop-first e₁ = read-fragment today-covered s version outputs ofQ before from ∙ rw e₁
 
   stop-second : {j at₁ k place : ℕ} → fieldAt s 1 (joinFault today version) from ≡ got j at₁ → fieldAt s 1 (countFault mostRanges) at₁ ≡ stopped k place
-      → read s (fragment today version outputs ofQ before) from ≡ stopped k place
+      → read today s (fragment version outputs ofQ before) from ≡ stopped k place
   stop-second e₁ e₂ = read-fragment today-covered s version outputs ofQ before from ∙ rw (e₁, e₂)
 
   module _ {j n at₁ at₂ : ℕ} (e₁ : fieldAt s 1 (joinFault today version) from ≡ got j at₁) (e₂ : fieldAt s 1 (countFault mostRanges) at₁ ≡ got n at₂) where
-    went-on : read s (fragment today version outputs ofQ before) from ≡ next (read s (ranges today version outputs ofQ before n) at₂) (λ rs at. got (record { join = joinOf j; ranges = rs }) at)
+    went-on : read today s (fragment version outputs ofQ before) from ≡ next (read today s (ranges version outputs ofQ before n) at₂) (λ rs at. got (record { join = joinOf j; ranges = rs }) at)
     went-on = read-fragment today-covered s version outputs ofQ before from ∙ rw (e₁, e₂)
 
     told : Between 0 (today .lastJoin version) j → (k : ℕ) (words₀ : List ℕ) {word fault at used : ℕ} {table₀ table : List ℕ} → word ≡ j + 256 * n
-        → Told s fault at (RangesShown before used (8 * k) table₀ table) (read s (ranges today version outputs ofQ before n) at₂)
-        → Told s fault at (FragmentShown before used k words₀ (set words₀ k word) table₀ table) (read s (fragment today version outputs ofQ before) from)
+        → Told s fault at (RangesShown before used (8 * k) table₀ table) (read today s (ranges version outputs ofQ before n) at₂)
+        → Told s fault at (FragmentShown before used k words₀ (set words₀ k word) table₀ table) (read today s (fragment version outputs ofQ before) from)
     told h k words₀ w (right rs e z l shown) =
         right (record { join = joinOf j; ranges = rs }) (went-on ∙ rw e) z l (record {
           names = shown .names;

@@ -20,10 +20,10 @@ use Rattle.parts.proofs.fragments.Tie as tie
 module _ (s : List ℕ) (from version outputs : ℕ) (ofQ : Bool) (before count first : ℕ) (words₀ table₀ : List ℕ) where
   abbrev Held : List ℕ → List ℕ → ℕ → ℕ → ℕ → Type 0
   Held words table at used i =
-      (xs : List Fragment) × SoFar s (fragment today version outputs ofQ) fragmentNames before count from used i at xs × Stored first words₀ words table₀ table xs
+      (xs : List Fragment) × SoFar s (fragment version outputs ofQ) fragmentNames before count from used i at xs × Stored first words₀ words table₀ table xs
 
   again : {words table words′ table′ : List ℕ} {at used i at′ fault used′ : ℕ} → Held words table at used i → i < count
-      → Told s fault at′ (FragmentShown used used′ (first + i) words words′ table table′) (read s (fragment today version outputs ofQ used) at) → fault ≡ 0
+      → Told s fault at′ (FragmentShown used used′ (first + i) words words′ table table′) (read today s (fragment version outputs ofQ used) at) → fault ≡ 0
       → Held words′ table′ at′ used′ (i + 1)
   again {i} (xs, f, e) h (right x got-x z l shown) _ = (
     xs ++ (x ∷ []),

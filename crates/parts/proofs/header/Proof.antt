@@ -6,7 +6,8 @@ use native.Mathlib.Omega.{arith}
 use Rattle.layout.specs.Form.{got, stopped, fieldAt, read}
 use Rattle.layout.specs.Terms.{noFault, today}
 use Rattle.layout.specs.Layout.{mostFragments}
-use Rattle.layout.specs.Reading.{countFault, kindFault, byKind, dueZero, triggerFault, header}
+use Rattle.layout.specs.Faults.{countFault, kindFault, byKind, dueZero, triggerFault}
+use Rattle.layout.specs.Reading.{header}
 use Rattle.fields.specs.Told.{right}
 use Rattle.fields.proofs.Telling.{passed, heard-number}
 use borrow.Author.Needs.{needs}
@@ -14,32 +15,32 @@ use Rattle.parts.proofs.header.Statement.{statement}
 use Rattle.parts.proofs.header.Tie as tie
 
 module _ (s : List ℕ) (version outputs at : ℕ) where
-  stop-1 : {j place : ℕ} → fieldAt s 1 (kindFault today version) at ≡ stopped j place → read s (header today version outputs) at ≡ stopped j place
+  stop-1 : {j place : ℕ} → fieldAt s 1 (kindFault today version) at ≡ stopped j place → read today s (header version outputs) at ≡ stopped j place
   unfolding header
   stop-1 e₁ = rw e₁
 
   module _ {k at₁ : ℕ} (e₁ : fieldAt s 1 (kindFault today version) at ≡ got k at₁) where
-    stop-2 : {j place : ℕ} → fieldAt s 1 (countFault mostFragments) at₁ ≡ stopped j place → read s (header today version outputs) at ≡ stopped j place
+    stop-2 : {j place : ℕ} → fieldAt s 1 (countFault mostFragments) at₁ ≡ stopped j place → read today s (header version outputs) at ≡ stopped j place
     unfolding header
     stop-2 e₂ = rw (e₁, e₂)
 
     module _ {m at₂ : ℕ} (e₂ : fieldAt s 1 (countFault mostFragments) at₁ ≡ got m at₂) where
-      stop-3 : {j place : ℕ} → fieldAt s 1 (byKind k (countFault mostFragments) dueZero) at₂ ≡ stopped j place → read s (header today version outputs) at ≡ stopped j place
+      stop-3 : {j place : ℕ} → fieldAt s 1 (byKind k (countFault mostFragments) dueZero) at₂ ≡ stopped j place → read today s (header version outputs) at ≡ stopped j place
       unfolding header
       stop-3 e₃ = rw (e₁, e₂, e₃)
 
       module _ {n at₃ : ℕ} (e₃ : fieldAt s 1 (byKind k (countFault mostFragments) dueZero) at₂ ≡ got n at₃) where
-        stop-4 : {j place : ℕ} → fieldAt s 1 (byKind k dueZero (triggerFault outputs)) at₃ ≡ stopped j place → read s (header today version outputs) at ≡ stopped j place
+        stop-4 : {j place : ℕ} → fieldAt s 1 (byKind k dueZero (triggerFault outputs)) at₃ ≡ stopped j place → read today s (header version outputs) at ≡ stopped j place
         unfolding header
         stop-4 e₄ = rw (e₁, e₂, e₃, e₄)
 
         module _ {i at₄ : ℕ} (e₄ : fieldAt s 1 (byKind k dueZero (triggerFault outputs)) at₃ ≡ got i at₄) where
-          stop-5 : {j place : ℕ} → fieldAt s 4 (byKind k noFault dueZero) at₄ ≡ stopped j place → read s (header today version outputs) at ≡ stopped j place
+          stop-5 : {j place : ℕ} → fieldAt s 4 (byKind k noFault dueZero) at₄ ≡ stopped j place → read today s (header version outputs) at ≡ stopped j place
           unfolding header
           stop-5 e₅ = rw (e₁, e₂, e₃, e₄, e₅)
 
           read-header : {t at₅ : ℕ} → fieldAt s 4 (byKind k noFault dueZero) at₄ ≡ got t at₅
-              → read s (header today version outputs) at ≡ got (record { kind = k; countP = m; countQ = n; trigger = i; time = t }) at₅
+              → read today s (header version outputs) at ≡ got (record { kind = k; countP = m; countQ = n; trigger = i; time = t }) at₅
           unfolding header
           read-header e₅ = rw (e₁, e₂, e₃, e₄, e₅)
 

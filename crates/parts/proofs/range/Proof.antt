@@ -6,7 +6,8 @@ use Prim.Native.Nat.{ℕ}
 use native.Mathlib.Omega.{arith}
 use Rattle.layout.specs.Form.{got, stopped, fieldAt, read}
 use Rattle.layout.specs.Terms.{today}
-use Rattle.layout.specs.Reading.{leastFault, mostFault, nameFault, range}
+use Rattle.layout.specs.Faults.{leastFault, mostFault, nameFault}
+use Rattle.layout.specs.Reading.{range}
 use Rattle.fields.specs.Told.{right}
 use Rattle.layout.proofs.Values.{with-name}
 use Rattle.fields.proofs.Telling.{passed, heard-number}
@@ -16,16 +17,16 @@ use Rattle.parts.proofs.range.Tie as tie
 
 module _ (s : List ℕ) (version outputs : ℕ) (ofQ : Bool) (used at : ℕ) {n u at₁ at₂ : ℕ}
     (e₁ : fieldAt s 1 (nameFault today outputs ofQ used) at ≡ got n at₁) (e₂ : fieldAt s 2 leastFault at₁ ≡ got u at₂) where
-  read-range : {v at₃ : ℕ} → fieldAt s 2 (mostFault (today .endless version) u) at₂ ≡ got v at₃ → read s (range today version outputs ofQ used) at ≡ got (record { name = n; u = u; v = v }) at₃
+  read-range : {v at₃ : ℕ} → fieldAt s 2 (mostFault (today .endless version) u) at₂ ≡ got v at₃ → read today s (range version outputs ofQ used) at ≡ got (record { name = n; u = u; v = v }) at₃
   unfolding range
   read-range e₃ = rw (e₁, e₂, e₃)
 
-  stop-third : {k place : ℕ} → fieldAt s 2 (mostFault (today .endless version) u) at₂ ≡ stopped k place → read s (range today version outputs ofQ used) at ≡ stopped k place
+  stop-third : {k place : ℕ} → fieldAt s 2 (mostFault (today .endless version) u) at₂ ≡ stopped k place → read today s (range version outputs ofQ used) at ≡ stopped k place
   unfolding range
   stop-third e₃ = rw (e₁, e₂, e₃)
 
 stop-second : (s : List ℕ) (version outputs : ℕ) (ofQ : Bool) (used at : ℕ) {n at₁ k place : ℕ} → fieldAt s 1 (nameFault today outputs ofQ used) at ≡ got n at₁
-    → fieldAt s 2 leastFault at₁ ≡ stopped k place → read s (range today version outputs ofQ used) at ≡ stopped k place
+    → fieldAt s 2 leastFault at₁ ≡ stopped k place → read today s (range version outputs ofQ used) at ≡ stopped k place
 unfolding range
 stop-second s version outputs ofQ used at e₁ e₂ = rw (e₁, e₂)
 

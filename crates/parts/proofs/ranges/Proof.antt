@@ -19,10 +19,10 @@ use Rattle.parts.proofs.ranges.Tie as tie
 
 module _ (s : List ℕ) (from version outputs : ℕ) (ofQ : Bool) (before count base : ℕ) (table₀ : List ℕ) where
   abbrev Held : List ℕ → ℕ → ℕ → ℕ → Type 0
-  Held table at used i = (xs : List Range) × SoFar s (range today version outputs ofQ) rangeName before count from used i at xs × (table ≡ fill putRange table₀ base xs)
+  Held table at used i = (xs : List Range) × SoFar s (range version outputs ofQ) rangeName before count from used i at xs × (table ≡ fill putRange table₀ base xs)
 
   again : {table table′ : List ℕ} {at used i at′ fault used′ : ℕ} → Held table at used i → i < count
-      → Told s fault at′ (RangeShown used used′ (base + i) table table′) (read s (range today version outputs ofQ used) at) → fault ≡ 0 → Held table′ at′ used′ (i + 1)
+      → Told s fault at′ (RangeShown used used′ (base + i) table table′) (read today s (range version outputs ofQ used) at) → fault ≡ 0 → Held table′ at′ used′ (i + 1)
   again {i} (xs, f, e) h (right r got-r z l shown) _ =
       (xs ++ (r ∷ []), more _ _ _ _ _ _ f h got-r l (shown .names), shown .ranges ∙ rw (e, ← (f .many)) (sym (fill-snoc putRange table₀ base xs r)))
   again held h (wrong e pos) z = absurd (omega (arith, pos, z))

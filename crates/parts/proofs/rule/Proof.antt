@@ -33,20 +33,20 @@ last-ones put outputs (suc (suc zero)) n i t q table j b l = refl
 last-ones put outputs (suc (suc (suc k))) n i t q table j b l = absurd b
 
 module _ (s : List ℕ) (version outputs from : ℕ) where
-  stop-header : {k place : ℕ} → read s (header today version outputs) from ≡ stopped k place → read s (rule today version outputs) from ≡ stopped k place
+  stop-header : {k place : ℕ} → read today s (header version outputs) from ≡ stopped k place → read today s (rule version outputs) from ≡ stopped k place
   stop-header e = read-rule today-covered s version outputs from ∙ rw e
 
-  module _ {h : Header} {kind hp hq i hu word at₁ : ℕ} (e₁ : read s (header today version outputs) from ≡ got h at₁) (w : HeaderShown kind hp hq i hu word h) where
-    stop-p : {k place : ℕ} → read s (fragments today version outputs false hu hp) at₁ ≡ stopped k place → read s (rule today version outputs) from ≡ stopped k place
+  module _ {h : Header} {kind hp hq i hu word at₁ : ℕ} (e₁ : read today s (header version outputs) from ≡ got h at₁) (w : HeaderShown kind hp hq i hu word h) where
+    stop-p : {k place : ℕ} → read today s (fragments version outputs false hu hp) at₁ ≡ stopped k place → read today s (rule version outputs) from ≡ stopped k place
     stop-p e₂ = read-rule today-covered s version outputs from ∙ rw (e₁, ← (w .set), ← (w .countP), e₂)
 
-    module _ {p : List Fragment} {pu at₂ : ℕ} (e₂ : read s (fragments today version outputs false hu hp) at₁ ≡ got p at₂) (u : pu ≡ insertAll hu (orderingNames p)) where
-      went-on : read s (rule today version outputs) from ≡ next (read s (fragments today version outputs true pu hq) at₂) (λ q at₃. got (made h p q) at₃)
+    module _ {p : List Fragment} {pu at₂ : ℕ} (e₂ : read today s (fragments version outputs false hu hp) at₁ ≡ got p at₂) (u : pu ≡ insertAll hu (orderingNames p)) where
+      went-on : read today s (rule version outputs) from ≡ next (read today s (fragments version outputs true pu hq) at₂) (λ q at₃. got (made h p q) at₃)
       went-on = read-rule today-covered s version outputs from ∙ rw (e₁, ← (w .set), ← (w .countP), e₂, ← u, ← (w .countQ))
 
       module _ (bytes : Bytes s) {k : ℕ} {words₀ words₁ words₂ table₀ table₁ table₂ : List ℕ} (heads₀ : List ℕ)
           (f : Stored (16 * k) words₀ words₁ table₀ table₁ p) (t : Stored (16 * k + hp) words₁ words₂ table₁ table₂ (triggerFragments kind i)) where
-        shown : {q : List Fragment} {qu at₃ : ℕ} {words₃ table₃ : List ℕ} → read s (fragments today version outputs true pu hq) at₂ ≡ got q at₃
+        shown : {q : List Fragment} {qu at₃ : ℕ} {words₃ table₃ : List ℕ} → read today s (fragments version outputs true pu hq) at₂ ≡ got q at₃
             → FragmentsShown pu qu (16 * k + hp) words₂ words₃ table₂ table₃ q → RuleShown k heads₀ (set heads₀ k word) words₀ words₃ table₀ table₃ (made h p q)
         shown {q} e₃ g =
             let lp : length p ≡ hp = fragments-length today-covered s version outputs false hu hp at₁ e₂ in
@@ -62,8 +62,8 @@ module _ (s : List ℕ) (version outputs from : ℕ) where
                   (last-ones putRanges outputs (h .kind) (h .countQ) (h .trigger) (h .time) q _ _ b (lq ∙ w .countQ) ∙ sym (fill-append putRanges table₀ (16 * k) p last));
             }
 
-        told : {fault at qu : ℕ} {words₃ table₃ : List ℕ} → Told s fault at (FragmentsShown pu qu (16 * k + hp) words₂ words₃ table₂ table₃) (read s (fragments today version outputs true pu hq) at₂)
-            → Told s fault at (RuleShown k heads₀ (set heads₀ k word) words₀ words₃ table₀ table₃) (read s (rule today version outputs) from)
+        told : {fault at qu : ℕ} {words₃ table₃ : List ℕ} → Told s fault at (FragmentsShown pu qu (16 * k + hp) words₂ words₃ table₂ table₃) (read today s (fragments version outputs true pu hq) at₂)
+            → Told s fault at (RuleShown k heads₀ (set heads₀ k word) words₀ words₃ table₀ table₃) (read today s (rule version outputs) from)
         told (right q e z l g) = right (made h p q) (went-on ∙ rw e) z l (shown e g)
         told (wrong e pos) = wrong (went-on ∙ rw e) pos
 

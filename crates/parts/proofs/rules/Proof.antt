@@ -19,13 +19,13 @@ use Rattle.parts.proofs.rules.Tie as tie
 
 module _ (s : List ℕ) (from version outputs count : ℕ) (heads₀ words₀ table₀ : List ℕ) where
   abbrev Held : List ℕ → List ℕ → List ℕ → ℕ → ℕ → Type 0
-  Held heads words table at i = (xs : List Rule) × SoFar s (λ _. rule today version outputs) (λ _. []) 0 count from 0 i at xs × RulesShown heads₀ heads words₀ words table₀ table xs
+  Held heads words table at i = (xs : List Rule) × SoFar s (λ _. rule version outputs) (λ _. []) 0 count from 0 i at xs × RulesShown heads₀ heads words₀ words table₀ table xs
 
   at-end : {A : Type 0} (put : List ℕ → ℕ → A → List ℕ) (t : List ℕ) (xs : List A) (x : A) {i : ℕ} → length xs ≡ i → put (fill put t 0 xs) i x ≡ fill put t 0 (xs ++ (x ∷ []))
   at-end put t xs x e = rw (← e) (sym (fill-snoc put t 0 xs x ∙ rw zero-add))
 
   again : {heads words table heads′ words′ table′ : List ℕ} {at i at′ fault : ℕ} → Held heads words table at i → i < count
-      → Told s fault at′ (RuleShown i heads heads′ words words′ table table′) (read s (rule today version outputs) at) → fault ≡ 0 → Held heads′ words′ table′ at′ (i + 1)
+      → Told s fault at′ (RuleShown i heads heads′ words words′ table table′) (read today s (rule version outputs) at) → fault ≡ 0 → Held heads′ words′ table′ at′ (i + 1)
   again (xs, f, e) h (right x got-x z l shown) _ = (
     xs ++ (x ∷ []),
     more _ _ _ _ _ _ f h got-x l refl,

@@ -26,15 +26,15 @@ same-sheet : {S T : Sheet} {o : Outcome} → o ≡ accepted S → o ≡ accepted
 same-sheet e f = cc (e, f)
 
 module _ (s : List ℕ) where
-  read-stop : {k place : ℕ} → read s (sheet today) 0 ≡ stopped k place → readSheet s ≡ refused k place
+  read-stop : {k place : ℕ} → read today s sheet 0 ≡ stopped k place → readSheet s ≡ refused k place
   unfolding readSheetOn
   read-stop e = rw e
 
-  read-more : {S : Sheet} {at : ℕ} → read s (sheet today) 0 ≡ got S at → at < length s → readSheet s ≡ refused 10 at
+  read-more : {S : Sheet} {at : ℕ} → read today s sheet 0 ≡ got S at → at < length s → readSheet s ≡ refused 10 at
   unfolding readSheetOn
   read-more {at} e h = rw (e, lt-ltb at (length s) h)
 
-  read-all : {S : Sheet} {at : ℕ} → read s (sheet today) 0 ≡ got S at → length s ≤ at → readSheet s ≡ accepted S
+  read-all : {S : Sheet} {at : ℕ} → read today s sheet 0 ≡ got S at → length s ≤ at → readSheet s ≡ accepted S
   unfolding readSheetOn
   read-all {at} e h = rw (e, le-ltb at (length s) h)
 

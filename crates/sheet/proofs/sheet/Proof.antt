@@ -7,7 +7,8 @@ use lib.ListN.{length}
 use Rattle.pattern.specs.Meaning.{Rule}
 use Rattle.layout.specs.Form.{got, stopped, fieldAt, read}
 use Rattle.layout.specs.Terms.{noFault, today}
-use Rattle.layout.specs.Reading.{markFault, versionFault, rulesFault, rules, sheet}
+use Rattle.layout.specs.Faults.{markFault, versionFault, rulesFault}
+use Rattle.layout.specs.Reading.{rules, sheet}
 use Rattle.fields.specs.Told.{right}
 use Rattle.layout.proofs.Forms.{several-length}
 use Rattle.layout.proofs.Values.{today-covered}
@@ -17,31 +18,31 @@ use borrow.Author.Needs.{needs}
 use Rattle.sheet.proofs.sheet.Statement.{statement}
 use Rattle.sheet.proofs.sheet.Tie as tie
 
-rules-length : (s : List ℕ) (version outputs n at : ℕ) {end : ℕ} {rs : List Rule} → read s (rules today version outputs n) at ≡ got rs end → length rs ≡ n
+rules-length : (s : List ℕ) (version outputs n at : ℕ) {end : ℕ} {rs : List Rule} → read today s (rules version outputs n) at ≡ got rs end → length rs ≡ n
 unfolding rules
-rules-length s version outputs n at e = several-length s _ _ n 0 at e
+rules-length s version outputs n at e = several-length today s _ _ n 0 at e
 
 module _ (s : List ℕ) where
-  stop-1 : {k place : ℕ} → fieldAt s 3 markFault 0 ≡ stopped k place → read s (sheet today) 0 ≡ stopped k place
+  stop-1 : {k place : ℕ} → fieldAt s 3 markFault 0 ≡ stopped k place → read today s sheet 0 ≡ stopped k place
   stop-1 e₁ = read-sheet today-covered s 0 ∙ rw e₁
 
   module _ {m at₁ : ℕ} (e₁ : fieldAt s 3 markFault 0 ≡ got m at₁) where
-    stop-2 : {k place : ℕ} → fieldAt s 2 (versionFault today) at₁ ≡ stopped k place → read s (sheet today) 0 ≡ stopped k place
+    stop-2 : {k place : ℕ} → fieldAt s 2 (versionFault today) at₁ ≡ stopped k place → read today s sheet 0 ≡ stopped k place
     stop-2 e₂ = read-sheet today-covered s 0 ∙ rw (e₁, e₂)
 
     module _ {v at₂ : ℕ} (e₂ : fieldAt s 2 (versionFault today) at₁ ≡ got v at₂) where
-      stop-3 : {k place : ℕ} → fieldAt s 8 noFault at₂ ≡ stopped k place → read s (sheet today) 0 ≡ stopped k place
+      stop-3 : {k place : ℕ} → fieldAt s 8 noFault at₂ ≡ stopped k place → read today s sheet 0 ≡ stopped k place
       stop-3 e₃ = read-sheet today-covered s 0 ∙ rw (e₁, e₂, e₃)
 
       module _ {o at₃ : ℕ} (e₃ : fieldAt s 8 noFault at₂ ≡ got o at₃) where
-        stop-4 : {k place : ℕ} → fieldAt s 1 (rulesFault today) at₃ ≡ stopped k place → read s (sheet today) 0 ≡ stopped k place
+        stop-4 : {k place : ℕ} → fieldAt s 1 (rulesFault today) at₃ ≡ stopped k place → read today s sheet 0 ≡ stopped k place
         stop-4 e₄ = read-sheet today-covered s 0 ∙ rw (e₁, e₂, e₃, e₄)
 
         module _ {n at₄ : ℕ} (e₄ : fieldAt s 1 (rulesFault today) at₃ ≡ got n at₄) where
-          stop-5 : {k place : ℕ} → read s (rules today v o n) at₄ ≡ stopped k place → read s (sheet today) 0 ≡ stopped k place
+          stop-5 : {k place : ℕ} → read today s (rules v o n) at₄ ≡ stopped k place → read today s sheet 0 ≡ stopped k place
           stop-5 e₅ = read-sheet today-covered s 0 ∙ rw (e₁, e₂, e₃, e₄, e₅)
 
-          all-read : {rs : List Rule} {at₅ : ℕ} → read s (rules today v o n) at₄ ≡ got rs at₅ → read s (sheet today) 0 ≡ got (record { version = v; outputs = o; rules = rs }) at₅
+          all-read : {rs : List Rule} {at₅ : ℕ} → read today s (rules v o n) at₄ ≡ got rs at₅ → read today s sheet 0 ≡ got (record { version = v; outputs = o; rules = rs }) at₅
           all-read e₅ = read-sheet today-covered s 0 ∙ rw (e₁, e₂, e₃, e₄, e₅)
 
 exactly-requires : tie.Need-exactly-requires
