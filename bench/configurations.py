@@ -169,6 +169,16 @@ def without_upper_end():
 
 
 # ---------------------------------------------------------------------------------------------
+# Most names in Q: where a sheet's reader looks at a name for its direction too, before it looks whether the rule has it
+# ---------------------------------------------------------------------------------------------
+
+def many_in_q():
+    seven = [some(ALL, *range(a, a + 8)) for a in range(1, 57, 8)]
+    rule = timed((one(0),), seven, LONG)
+    yield Configuration('names', '16 rules: n ⇒ seven of ({n1..n8},∧), t, the same names', sheet(*[rule] * 16), (), range(57))
+
+
+# ---------------------------------------------------------------------------------------------
 # The configurations of the papers
 # ---------------------------------------------------------------------------------------------
 
@@ -264,7 +274,7 @@ def entry(c):
 if __name__ == '__main__':
     print('enum { FOREIGN = %d }; /* a name that no rule of a paper\'s configuration has */\n' % FOREIGN)
     print('static const configuration configurations[] = {')
-    for group in (general(), shuffled(), without_upper_end(), papers(), quiet()):
+    for group in (general(), shuffled(), without_upper_end(), many_in_q(), papers(), quiet()):
         for configuration in group:
             print(entry(configuration))
     print('};\n')

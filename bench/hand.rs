@@ -160,13 +160,13 @@ impl Reader<'_> {
         Ok(value as u16)
     }
 
-    /// A trigger or a range's name: "At one field the order is 1, 6, 8, 9".
+    /// A trigger or a range's name: by document 02 "At a range name the order becomes 1, 6, 9, 8". At a trigger the rule has no name yet, so that 8 is not met.
     fn name(&mut self, wrong_way: Names) -> Result<u8, Fault> {
         let used = self.used;
         let name = self.field(1, |x| match x as u8 {
             64.. => 6,
-            n if used.has(n) => 8,
             n if wrong_way.has(n) => 9,
+            n if used.has(n) => 8,
             _ => 0,
         })? as u8;
         self.used.add(name);

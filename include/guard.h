@@ -13,9 +13,9 @@ extern "C" {
 
 /* ---- versions */
 
-/* This header's library. It rises with each call that is added or changed, as opening is by the sheets that it reads, and with the memory that a host lends. From 5 on v = 0 is read,
- * 6 has guard_write, and 7 has guard_play. */
-#define GUARD_LIBRARY_VERSION 7
+/* This header's library. It rises with each call that is added or changed, as opening is by the sheets that it reads and refuses, and with the memory that a host lends. From 5 on
+ * v = 0 is read, 6 has guard_write, 7 has guard_play, and from 8 on a name of Q that is an input is refused by 9 where the rule has it already too. */
+#define GUARD_LIBRARY_VERSION 8
 
 /* The newest version of a sheet that this library reads; each older one is read too. Version 2 has shuffled fragments and ranges without an upper end. */
 #define GUARD_SHEET_VERSION 2
@@ -50,7 +50,8 @@ enum {
 };
 
 /* Refusals, "Where each refusal is found". 1 to 10 are a sheet's, 11 to 13 an observation's, 14 a log's, 15 an output's, 16 the buffer's of
- * guard_write, 17 and 18 those of guard_play. docs/SHEETS.md has an example of each, and `./run` takes its words from this table. */
+ * guard_write, 17 and 18 those of guard_play. "At a range name the order becomes 1, 6, 9, 8": an input that is named in Q is 9, also where the rule has it already, and 8 is left for
+ * names of P and for outputs. docs/SHEETS.md has an example of each, and `./run` takes its words from this table. */
 enum {
     GUARD_TRUNCATED = 1,      /* a field doesn't fit in the bytes left */
     GUARD_MARK = 2,           /* the mark is not "LOB" */

@@ -1,4 +1,4 @@
-"""The guard of document 01, with changes 1 to 3 of document 02, written a second time from its definitions.
+"""The guard of document 01, with changes 1 to 3 and 6 of document 02, written a second time from its definitions.
 
 Nothing here knows of recogniser states, of a move table or of a translated book. A sheet is read
 field by field; a rule is judged by cutting the list of its own events into rounds, fragments and
@@ -18,6 +18,9 @@ MOST = 4294967295
 ALL, ANY, ALL_SHUFFLED, ANY_SHUFFLED = JOINS = range(4)
 LAST_JOIN = {1: ANY, 2: ANY_SHUFFLED}                     # the versions of a sheet, and the last join of each
 NO_UPPER_END = {1: (), 2: (0,)}                           # the v of each version that is no bound: u or more occurrences
+# The faults of a range's name behind 1, which comes before any look at its value. Change 6: "At a range name the order becomes 1, 6, 9, 8"; document 01 had "1, 6, 8, 9", which is kept to
+# hold what the change affects to its sentence (reused.py).
+NAME_ORDER, OLD_NAME_ORDER = (6, 9, 8), (6, 8, 9)
 SOME_WILL_DO, IN_ANY_MIX = (ANY, ANY_SHUFFLED), (ALL_SHUFFLED, ANY_SHUFFLED)
 
 Range = namedtuple('Range', 'name u v')
@@ -41,10 +44,10 @@ class Refused(Exception):
 # ---------------------------------------------------------------------------------------------
 
 class Fields:
-    """The bytes of a sheet, taken field by field. `at` is the offset of the field taken last."""
+    """The bytes of a sheet, taken field by field. `at` is the offset of the field taken last; `name_order` is the order of the faults of a range's name."""
 
-    def __init__(self, data):
-        self.data, self.next, self.at = data, 0, 0
+    def __init__(self, data, name_order):
+        self.data, self.next, self.at, self.name_order = data, 0, 0, name_order
 
     def take(self, size):
         self.at = self.next
@@ -78,9 +81,9 @@ def is_output(outputs, name):
 
 def read_range(f, version, outputs, used, in_q):
     name = f.number(1)
-    f.refuse(6, name > 63)
-    f.refuse(8, name in used)
-    f.refuse(9, in_q and not is_output(outputs, name))
+    met = {6: name > 63, 8: name in used, 9: in_q and not is_output(outputs, name)}
+    for number in f.name_order:
+        f.refuse(number, met[number])
     used.add(name)
     u = f.number(2)
     f.refuse(7, u == 0)
@@ -115,9 +118,9 @@ def read_rule(f, version, outputs):
     return Rule(kind, p, q, trigger, t)
 
 
-def read_sheet(data):
+def read_sheet(data, name_order=NAME_ORDER):
     """The sheet of these bytes; raises Refused with 1 to 10 and the place of the first faulty field."""
-    f = Fields(data)
+    f = Fields(data, name_order)
     f.refuse(2, f.take(3) != b'LOB')
     version = f.number(2)
     f.refuse(3, version not in LAST_JOIN)

@@ -27,13 +27,14 @@ from collections import Counter, namedtuple
 import guard
 import playing
 import plays
+import reused
 import words
 import writing
 from endless import SCENARIOS, endless_cases
 from guard import (ALL, ALL_SHUFFLED, ANY, ANY_SHUFFLED, BROKEN, CLOCK, IN_ANY_MIX, JOINS, MOST, OPEN, REFUSED, Fragment, Range,
                    Refused, Rule, Sheet)
 from logs import deadline_log, log_bytes, some_log, with_refusal
-from sheets import (FAULTS, VERSION_FAULTS, Dice, faulty, largest_sheet, prolonged, some_sheet, truncated, twice_faulty,
+from sheets import (FAULTS, NAME_FAULTS, VERSION_FAULTS, Dice, faulty, largest_sheet, prolonged, some_sheet, truncated, twice_faulty,
                     written)
 
 SEED = 20161114
@@ -331,6 +332,14 @@ def fault_cases(dice, each, version=1):
         yield faulty_case(dice, version, lambda sheet: twice_faulty(dice, sheet, dice.pick(FAULTS), dice.pick(FAULTS)))
 
 
+def name_fault_cases(dice):
+    """Names that the rule has already, and sheets that end before a name of Q (change 6)."""
+    for version, _ in itertools.product(guard.LAST_JOIN, range(AT_LEAST)):
+        for fault in NAME_FAULTS:
+            yield faulty_case(dice, version, lambda sheet: faulty(dice, sheet, fault))
+        yield faulty_case(dice, version, lambda sheet: truncated(dice, sheet, 'Q name'))
+
+
 def every_truncation():
     """Each beginning of a sheet with all kinds of rule, of one with all joins, and of one with ranges that have no upper end."""
     for sheet in (Sheet(2, (T.rules[0], R.rules[0], N.rules[0])), Sheet(512, A.rules + S.rules + O.rules, 2), Sheet(512, E.rules + G.rules + H.rules, 2)):
@@ -403,6 +412,7 @@ def all_cases():
     yield from short_endless_cases()
     for book, log, about in endless_cases(dice, 15):
         yield Case('ranges without an upper end', book, log, MOST, about)
+    yield from name_fault_cases(dice)
 
 
 # ---------------------------------------------------------------------------------------------
@@ -429,7 +439,7 @@ def case_bytes(case, result, why):
 WRITTEN = 'books written back'     # change 3: each accepted case's
 PLAYED = {'rounds played': 'records', 'refusal 17': 'refusal 17', 'refusal 18': 'refusal 18'}     # change 5: the plays' lines, by the words of plays.py
 
-# What changes 1 and 2 bring, by a word for each. 'join 2 is not 0': with join 0 in the place of 2 the case is due something else; 'no upper end is not u': with v = u in the place of v = 0.
+# What changes 1, 2 and 6 bring, by a word for each. 'join 2 is not 0': with join 0 in the place of 2 the case is due something else; 'no upper end is not u': with v = u in the place of v = 0.
 SWAPS = {'join 2 is not 0': (ALL_SHUFFLED, ALL), 'join 3 is not 1': (ANY_SHUFFLED, ANY),
          'join 2 is not 3': (ALL_SHUFFLED, ANY_SHUFFLED), 'join 3 is not 2': (ANY_SHUFFLED, ALL_SHUFFLED)}
 PARTS = [(0, 'P'), (1, 'P'), (2, 'P'), (2, 'Q')]
@@ -438,7 +448,8 @@ FEATURES = (['version 2 ' + word for word in ANSWERS] + ['version 2 refusal %d' 
             + ['shuffled P can grow', 'shuffled P cannot grow', 'version 3', 'join 2 in version 1', 'join 3 in version 1', 'join 4 in version 2']
             + ['no upper end: kind %d, %s, join %d' % (kind, part, join) for (kind, part), join in itertools.product(PARTS, JOINS)]
             + ['no upper end ' + word for word in ANSWERS[:3]] + ['no upper end is not u'] + ['no upper end: ' + word for word in SCENARIOS]
-            + ['v = 0 in version 1', 'u = 0 and v = 0 in version 1', 'u = 0 and v = 0 in version 2', '0 < v < u in version 2'])
+            + ['v = 0 in version 1', 'u = 0 and v = 0 in version 1', 'u = 0 and v = 0 in version 2', '0 < v < u in version 2']
+            + reused.COUNTED)
 
 
 def with_join(sheet, old, new):
@@ -482,6 +493,7 @@ def endless_features(case, sheet, result):
 
 
 def features(case, result, why):
+    yield from reused.words(case.sheet, reused.hold(case.sheet))
     version = int.from_bytes(case.sheet[3:5], 'little')
     if version == 2:
         yield 'version 2 ' + ANSWERS[result.answer]

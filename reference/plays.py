@@ -7,6 +7,7 @@ import itertools
 import struct
 from collections import Counter, namedtuple
 
+import reused
 from guard import ALL, ANY_SHUFFLED, IN_ANY_MIX, JOINS, MOST, Fragment, Range, Rule, Sheet, read_sheet
 from playing import RECORD, Moment, bytes_of, chosen, looked_at, one, page_examples, play, sheet_of, small_rules, steps
 from sheets import largest_sheet, some_kind, some_pool, some_rule, some_sheet, written
@@ -34,6 +35,7 @@ def by_sheet(cases, play_bytes, met, *features):
     """The bytes of the cases, those of one sheet after the other as one entry: u16 length, the sheet, u16 number of its cases, and what `play_bytes` gives of each; `met` counts what they are."""
     for data, group in itertools.groupby(cases, lambda case: case.sheet):
         sheet, made = read_sheet(data), []
+        assert reused.hold(data) is None, data
         for case in group:
             said = due(case, sheet)
             for words in features:

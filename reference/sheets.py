@@ -235,22 +235,46 @@ def too_small(dice, sheet, field):
     return dice.pick([1, field.low - 1]) if field.low > 1 else None
 
 
+def is_output(sheet, name):
+    return sheet.outputs >> name & 1 == 1
+
+
 def in_rule(dice, sheet, field):
     return dice.pick(sorted(field.used)) if field.used else None
 
 
+def input_in_rule(dice, sheet, field):
+    names = sorted(n for n in field.used if not is_output(sheet, n))
+    return dice.pick(names) if names else None
+
+
+def output_in(part):
+    """An output that the rule has before this field, in P or in Q."""
+    def value(dice, sheet, field):
+        ordering = field.rule.p if part == 'P' else field.rule.q
+        names = [r.name for fragment in ordering for r in fragment.ranges if r.name in field.used and is_output(sheet, r.name)]
+        return dice.pick(names) if names else None
+    return value
+
+
+def again_in_q(sheet, name):
+    """What a Q name that the rule has already is due. Change 6: an input meets 8 and 9, and 9 comes first; an output meets 8 alone."""
+    return 8 if is_output(sheet, name) else 9
+
+
 def an_output(dice, sheet, field):
-    names = [n for n in range(64) if sheet.outputs >> n & 1]
+    names = [n for n in range(64) if is_output(sheet, n)]
     return dice.pick(names) if names else None
 
 
 def an_input(dice, sheet, field):
-    """An input that the rule does not have already: with one it has, 8 would come first."""
-    names = [n for n in range(64) if not sheet.outputs >> n & 1 and n not in names_of(field.rule)]
+    """An input that the rule does not have, so that 9 alone is met."""
+    names = [n for n in range(64) if not is_output(sheet, n) and n not in names_of(field.rule)]
     return dice.pick(names) if names else None
 
 
-# refusal, kind of field, a value that the refusal names (None where the sheet has no such value), and how many bytes it has where that is not the field's own
+# refusal, or what gives it for the sheet and the value; kind of field; a value that the refusal names (None where the sheet has no such value); and how many bytes it has where that is not
+# the field's own
 Fault = namedtuple('Fault', 'refusal what value size', defaults=(None,))
 FAULTS = [Fault(*row) for row in (
     (2, 'mark', other_mark),
@@ -270,13 +294,21 @@ FAULTS = [Fault(*row) for row in (
     (7, 'u', one_of(0)),
     (7, 'v', too_small),
     (8, 'P name', in_rule),
-    (8, 'Q name', in_rule),
+    (again_in_q, 'Q name', in_rule),
     (9, 'trigger', an_output),
     (9, 'Q name', an_input),
 )]
 # those whose number or whose values are the version's; and a u of 0 before a v of 0, which is never looked at
 BOTH_VERSIONS = [Fault(3, 'version', one_of(3)), Fault(4, 'join', join_past(1)), Fault(4, 'join', join_past(2)), Fault(7, 'u', one_of(0), 4)]
 VERSION_FAULTS = {1: BOTH_VERSIONS + [Fault(7, 'v', one_of(0))], 2: BOTH_VERSIONS + [Fault(7, 'v', too_small)]}
+# a name that the rule has already (change 6): in Q an input is 9, and was 8; an output is 8, from P and from Q; in P, where there is no 9, both are 8
+NAME_FAULTS = [Fault(*row) for row in (
+    (9, 'Q name', input_in_rule),
+    (8, 'Q name', output_in('P')),
+    (8, 'Q name', output_in('Q')),
+    (8, 'P name', input_in_rule),
+    (8, 'P name', output_in('P')),
+)]
 
 
 def faulty(dice, sheet, fault):
@@ -289,7 +321,8 @@ def faulty(dice, sheet, fault):
     new, size = fault.value(dice, sheet, field), fault.size or field.size
     if new is None:
         return None
-    return data[:field.at] + new.to_bytes(size, 'little') + data[field.at + size:], fault.refusal, field.at
+    refusal = fault.refusal(sheet, new) if callable(fault.refusal) else fault.refusal
+    return data[:field.at] + new.to_bytes(size, 'little') + data[field.at + size:], refusal, field.at
 
 
 def twice_faulty(dice, sheet, first, second):
@@ -302,9 +335,12 @@ def twice_faulty(dice, sheet, first, second):
     return (mixed,) + min(one[1:], two[1:], key=lambda due: due[1])
 
 
-def truncated(dice, sheet):
-    """A sheet cut off in or before one of its fields."""
+def truncated(dice, sheet, what=None):
+    """A sheet cut off in or before one of its fields, or one of this kind; None if it has no such field."""
     data, fields = written(sheet)
+    fields = [f for f in fields if what in (None, f.what)]
+    if not fields:
+        return None
     field = dice.pick(fields)
     return data[:field.at + dice.below(field.size)], 1, field.at
 

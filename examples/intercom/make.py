@@ -167,8 +167,9 @@ class Component:
         need(parts, '%s: a range is a name, name+, name[u,v] or name[u,]', text or 'nothing')
         name, bounds, u, v = parts.groups()
         n = self.number_of(name)
-        need(name not in used, '%s is twice in the rule', name)
+        # in the order of the refusals that the bytes would meet, 9 and then 8: who was told 'twice' would rename an input, and then be told that it is one
         need(not in_q or self.is_output(name), '%s is an input, and what stands behind => are outputs', name)
+        need(name not in used, '%s is twice in the rule', name)
         used.add(name)
         if bounds in (None, '+'):
             u, v = 1, 65535 if bounds else 1

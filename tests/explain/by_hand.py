@@ -66,6 +66,7 @@ def changed(book, at, byte):
 
 
 FIRST, SECOND = 'rule 0, fragment 1 of 1 in P, range 1 of 2, ', 'rule 0, fragment 1 of 1 in P, range 2 of 2, '
+IN_Q = 'rule 0, fragment 1 of 1 in Q, range 1 of 1, '
 SHEETS = [
     (1, b'', b'', 0, 'mark: found 0 of its 3 bytes'),
     (1, R[:8], b'', 5, 'outputs: found 3 of its 8 bytes'),
@@ -94,8 +95,10 @@ SHEETS = [
     (7, changed(changed(changed(R, 3, 2), 25, 5), 27, 4), b'', 27, FIRST + 'v: found 4; due 0, which is no upper end, or from u to 65535, u is 5'),
     (7, changed(changed(E, 25, 0), 27, 0), b'', 25, 'rule 0, fragment 1 of 1 in P, range 1 of 1, u: found 0; due 1 to 65535'),
     (8, changed(R, 29, 0), b'', 29, SECOND + 'name: found 0; due 0 to 63, and not in the rule yet'),
+    (8, changed(changed(T, 5, 3), 31, 0), b'', 31, IN_Q + 'name: found 0; due an output, 0 to 63, that the rule does not have yet'),
     (9, changed(R, 5, 4), b'', 17, 'rule 0, trigger: found 2; due an input, 0 to 63'),
-    (9, changed(T, 5, 0), b'', 31, 'rule 0, fragment 1 of 1 in Q, range 1 of 1, name: found 1; due an output, 0 to 63, that the rule does not have yet'),
+    (9, changed(T, 5, 0), b'', 31, IN_Q + 'name: found 1; due an output, 0 to 63, that the rule does not have yet'),
+    (9, changed(T, 31, 0), b'', 31, IN_Q + 'name: found 0; due an output, 0 to 63, that the rule does not have yet'),
     (10, R + b'\7\0\0', b'', 34, 'after the last rule: found 3 more, the first is 7; due none'),
     (14, R, b'\0' * 19, 0, '19 bytes: 3 records and 4 bytes more'),
 ]

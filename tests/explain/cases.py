@@ -71,7 +71,7 @@ def faults(runs, dice, count):
         faulty = [lambda s, fault=fault: sheets.faulty(dice, s, fault) for fault in known]
         faulty += [lambda s: sheets.truncated(dice, s), lambda s: sheets.prolonged(dice, s)] * 4
         return faulty + [lambda s: sheets.twice_faulty(dice, s, dice.pick(known), dice.pick(known))] * 4
-    makers_of = {version: makers(sheets.FAULTS + faults) for version, faults in sheets.VERSION_FAULTS.items()}
+    makers_of = {version: makers(sheets.FAULTS + sheets.NAME_FAULTS + faults) for version, faults in sheets.VERSION_FAULTS.items()}
     while group.count < count:
         version = dice.pick([1, 2])
         sheet = sheets.some_sheet(dice, dice.chance(0.5), version)
@@ -168,7 +168,7 @@ def main(program, stub, seed):
     dice = Dice(random.Random(seed).random)
     with tempfile.TemporaryDirectory() as folder:
         runs, stubbed = Runs(program, folder), Runs(stub, folder)
-        groups = [by_hand.traces(runs), by_hand.shown(runs), by_hand.refusals(runs, stubbed), intercom(runs), faults(runs, dice, 200), random_logs(runs, dice, 640), any_bytes(runs, dice, 200),
+        groups = [by_hand.traces(runs), by_hand.shown(runs), by_hand.refusals(runs, stubbed), intercom(runs), faults(runs, dice, 240), random_logs(runs, dice, 640), any_bytes(runs, dice, 200),
                   notation(runs, dice, 60), calls.arguments(runs), calls.names(runs), calls.documented(runs), calls.other_library(stubbed)]
     return any([group.tell() for group in groups])
 

@@ -1,4 +1,4 @@
-/* Sheets by hand: each refusal of "Where each refusal is found" with its place, by guard_open and by guard_run. The sheets are those of rules R, T and, in version 2, S and E with one byte
+/* Sheets by hand: each refusal of "Where each refusal is found" with its place, by guard_open and by guard_run. The sheets are those of rules R, T, D and, in version 2, S and E with one byte
  * changed. */
 #include "host.h"
 
@@ -9,10 +9,21 @@ struct opening {
     uint32_t place;
 };
 
+/* D: kind 2, P = {0, 3} all, Q = 1 then 2, bounds [1,1], t = 10; 1, 2 and 3 are outputs, so that P has an input and an output. */
+#define D_BYTES 48
+static const uint8_t sheet_d[D_BYTES] = {
+    0x4C, 0x4F, 0x42, 1, 0, 14, 0, 0, 0, 0, 0, 0, 0, 1, /* outputs at 5 */
+    2, 1, 2, 0, 10, 0, 0, 0,                            /* 14: kind, counts, trigger, t */
+    0, 2, 0, 1, 0, 1, 0, 3, 1, 0, 1, 0,                 /* 22: P, its names at 24 and 29 */
+    0, 1, 1, 1, 0, 1, 0,                                /* 34: Q, its names at 36 */
+    0, 1, 2, 1, 0, 1, 0                                 /* 41: and at 43 */
+};
+
 #define T sheet_t, T_BYTES
 #define R sheet_r, R_BYTES
 #define S sheet_s, S_BYTES
 #define E sheet_e, E_BYTES
+#define D sheet_d, D_BYTES
 
 static const struct opening openings[] = {
     {R, 0, 0x4C, 0, 0},
@@ -60,10 +71,22 @@ static const struct opening openings[] = {
     {S, 25, 3, 7, 27},     /* u = 3, v = 2 */
     {R, 29, 0, 8, 29},     /* a name twice */
     {R, 24, 2, 8, 24},     /* trigger and range */
-    {T, 31, 0, 8, 31},     /* P and Q: 8 comes before 9 */
+    {T, 31, 0, 9, 31},     /* "a Q name that is an input and already in the rule: 8 becomes 9" */
     {R, 5, 4, 9, 17},      /* the trigger is an output */
     {T, 5, 0, 9, 31},      /* a name of Q is an input */
     {T, 5, 3, 0, 0},       /* "a trigger of 0 in kind 2 is right even if name 0 is an output" */
+    {D, 13, 1, 0, 0},      /* "At a range name the order becomes 1, 6, 9, 8" */
+    {D, 36, 0, 9, 36},     /* an input of P in Q's first fragment, */
+    {D, 43, 0, 9, 43},     /* and in its last */
+    {D, 43, 4, 9, 43},     /* an input that the rule has not */
+    {D, 43, 64, 6, 43},    /* no name at all, which is neither */
+    {D, 43, 255, 6, 43},
+    {D, 43, 1, 8, 43},     /* an output twice in Q */
+    {D, 43, 3, 8, 43},     /* an output of P, */
+    {D, 5, 6, 0, 0},       /* which might as well be an input there */
+    {D, 29, 0, 8, 29},     /* an input twice in P, where no name is 9 */
+    {D, 24, 3, 8, 29},     /* an output twice in P */
+    {D, 5, 12, 9, 36},     /* Q's 1 as an input, once */
     {R, 13, 2, 1, R_BYTES} /* a second rule is not there */
 };
 
@@ -117,7 +140,7 @@ void check_openings(void)
     long count = 0, wrong = 0;
     for (size_t i = 0; i < sizeof openings / sizeof *openings; i++, count++) {
         const struct opening *o = &openings[i];
-        uint8_t sheet[S_BYTES];
+        uint8_t sheet[D_BYTES]; /* the longest of them */
         memcpy(sheet, o->sheet, o->length);
         sheet[o->at] = o->byte;
         if (wrong_sheet(sheet, o->length, o->refusal, o->place))
@@ -127,6 +150,8 @@ void check_openings(void)
     memcpy(longer, sheet_r, R_BYTES);
     for (size_t length = R_BYTES + 1; length <= sizeof longer; length++, count++)
         wrong += wrong_sheet(longer, length, GUARD_LEFT_OVER, R_BYTES);
+    count++;
+    wrong += wrong_sheet(sheet_d, 43, GUARD_TRUNCATED, 43); /* a name of Q that is not there */
     tell("sheets by hand", count, wrong);
     check_cut_off();
     check_lengths();

@@ -1,6 +1,6 @@
 #!/usr/bin/env python3
 """Example sheets, and what is due for each: the answer of the second reading in reference/, which is written from document 01 ("The sheet", "Where each refusal is
-found") and changes 1 and 2 of document 02 and from nothing else of this repository.
+found") and changes 1, 2 and 6 of document 02 and from nothing else of this repository.
 
   python3 tests/sheets/make.py          write crates/sheets/stdin (the sheets) and crates/sheets/stdout (a line for each: answer, number, place)
   python3 tests/sheets/make.py --check  say whether those two files are what would be written, and print how many sheets meet each refusal
@@ -16,6 +16,7 @@ import sys
 HERE = os.path.dirname(os.path.abspath(__file__))
 sys.path[:0] = [os.path.join(HERE, ".."), os.path.join(HERE, "..", "..", "reference")]
 
+import reused
 from guard import LAST_JOIN, Refused, read_sheet
 from stored import keep
 
@@ -70,6 +71,8 @@ def full(p_sizes, q_sizes, version=1):
 
 PRINTED = bytes.fromhex("4C4F42 0100 0000000000000000 01 01 01 00 02 00000000 00 02 00 0100 0100 01 0100 0100".replace(" ", ""))
 FULL = full([4] * 8, [4] * 8)
+RANDOM = 93     # random sheets, each with two of its changes: as many as stdin, of at most 65,536 bytes, has room for
+HELD = 500      # of the prefixes of a long sheet these are held to reused.py, and it as a whole: all end in a field that is cut off
 
 
 def examples():
@@ -177,9 +180,13 @@ def examples():
         for kind in (0, 1):
             yield 0, sheet([rule(kind, [fragment([a_range(7)])], trigger=name)], 1 << name)
         yield 0, sheet([rule(2, [fragment([a_range(7)])], [fragment([a_range(name)])])], (1 << 64) - 1 - (1 << name))
-    # at one field 8 comes before 9, and 6 before both
+    # at a range's name 6 comes first, then 9, then 8 (change 6)
     yield 0, sheet([rule(2, [fragment([a_range(5)])], [fragment([a_range(5)])])])
     yield 0, sheet([rule(2, [fragment([a_range(5)])], [fragment([a_range(64)])])])
+    for version in LAST_JOIN:
+        yield from reused_names(version)
+    for trigger in (40, 64):
+        yield 0, sheet([rule(1, [fragment([a_range(5)])], trigger=trigger)], (1 << 64) - 1)
     # the first faulty field decides
     yield 0, sheet([rule(1, [fragment([a_range(0, 0, 0)])], trigger=70)], 1)
     yield 0, sheet([rule(2, [fragment([a_range(0, 0, 5)], join=7)], [answer])], outputs)
@@ -188,12 +195,32 @@ def examples():
         yield 0, PRINTED + more
     # random sheets, and one byte of them changed
     rng = random.Random(2016)
-    for number in range(100):
+    for number in range(RANDOM):
         data = random_sheet(rng, 1 + number % 2)
         yield 0, data
         for _ in range(2):
             at = rng.randrange(len(data))
             yield 0, data[:at] + bytes([rng.choice([0, 1, 2, 3, 4, 8, 9, 63, 64, 255, data[at] ^ 1, rng.randrange(256)])]) + data[at + 1:]
+
+
+def reused_names(version):
+    """Rules of kind 2 over the inputs 5 and 6 and the outputs 40 and 63, with a name in Q or in P that is wrong or there already. A list is an ordering's names, fragment by fragment."""
+    outputs, last = 1 << 40 | 1 << 63, LAST_JOIN[version]
+
+    def timed(p, q):
+        return rule(2, *([fragment([a_range(n) for n in names], join=last) for names in ordering] for ordering in (p, q)), t=10)
+    p = [[5, 40], [6]]
+    in_q = [[[5]], [[63, 6]], [[63], [5]],             # an input of P again: alone, in a later place, in a later fragment
+            [[40]], [[63, 40]], [[63, 63]], [[63], [63]],    # an output of P, and of Q
+            [[63, 7]], [[63, 64]], [[255]]]            # an input that the rule does not have; above 63
+    for q in in_q:
+        yield 0, sheet([timed(p, q)], outputs, version=version)
+    for again in ([[5, 5]], [[40, 40]]):
+        yield 0, sheet([timed(again, [[63]])], outputs, version=version)
+    # in the second rule, whose P has 5 or has it not; and the sheet ends before the name
+    for own in ([[5]], [[6]]):
+        yield 0, sheet([timed(p, [[63]]), timed(own, [[5]])], outputs, version=version)
+    yield 0, sheet([timed(p, [[63]])], outputs, version=version)[:-5]
 
 
 def random_sheet(rng, version):
@@ -245,6 +272,8 @@ def made():
         sheets += struct.pack("<BH", prefixes, len(data)) + data
         for end in range(len(data) + 1) if prefixes else [len(data)]:
             answer = due(data[:end])
+            if end <= HELD or end == len(data):
+                reused.hold(data[:end])
             met[answer[1]] = met.get(answer[1], 0) + 1
             lines.append("%d %d %d\n" % answer)
     assert due(PRINTED) == (0, 0, 0) and due(FULL) == (0, 0, 0)

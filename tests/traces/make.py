@@ -17,6 +17,7 @@ from collections import Counter
 HERE = os.path.dirname(os.path.abspath(__file__))
 sys.path[:0] = [os.path.join(HERE, ".."), os.path.join(HERE, "..", "..", "reference")]
 
+import reused
 from guard import BROKEN, CLOCK, MOST, OPEN, Judge, read_sheet
 from logs import deadline_log, some_log, with_refusal
 from endless import endless_cases
@@ -52,6 +53,7 @@ def told(verdict):
 
 
 def line(book, log, before):
+    assert reused.hold(book) is None, book
     judge = Late(read_sheet(book).rules, before)
     words = []
     for time, name in log:

@@ -232,18 +232,18 @@ fn misdirected(outputs: u64, of_q: bool, n: u8) -> bool
     false
 }
 
-// The faults of a name in the order of one field: above 63, already in the rule, of the wrong direction.
+// The faults of a name in the order of one field: above 63, of the wrong direction, already in the rule.
 fn in_order(n: u8, again: bool, wrong_way: bool) -> u8
     ensures { λ r. ⌜ r ≡ today .inOrder (ltb lastName n) «again» «wrong_way» ⌝ }
 {
     if LAST_NAME < n {
         return 6;
     }
-    if again {
-        return 8;
-    }
     if wrong_way {
         return 9;
+    }
+    if again {
+        return 8;
     }
     0
 }

@@ -12,3 +12,4 @@ pub mod Once
 pub mod Parting
 pub mod Versions
 pub mod Endless
+pub mod Reused

@@ -165,7 +165,7 @@ module _ (T U : Terms) (s : List ℕ) (P : Field → ℕ → Type 0) where
 above : (newest x : ℕ) → 0 < newest → newest < x → outside 3 1 newest x ≡ 3
 above newest x some h = rw (le-ltb x 1 (omega (arith, some, h)), lt-ltb newest x h)
 
--- "Version 1 sheets read as before": what document 01's terms answered stays for all bytes but those whose version is 2
+-- "Version 1 sheets read as before": what document 01's terms answered stays for all bytes but those whose version is 2. What change 6 has changed since, in every version, `eight-becomes-nine` says
 pub other-versions-stay : (s : List ℕ) → ¬ HasVersion 2 s → readSheetOn withEndless s ≡ readSheetOn base s
 other-versions-stay s other = look (alike-but withEndless base s Two like)
   where

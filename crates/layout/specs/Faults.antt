@@ -60,7 +60,7 @@ module _ (T : Terms) where
   abbrev pub joinFault : ℕ → ℕ → ℕ
   joinFault version = outside 4 0 (T .lastJoin version)
 
-  -- a range's name: "8 already in the rule", of which `used` is the set of names so far; "9 .. Q name .. an input"
+  -- a range's name: "9 .. Q name .. an input"; "8 already in the rule", of which `used` is the set of names so far
   abbrev pub nameFault : ℕ → Bool → ℕ → ℕ → ℕ
   nameFault outputs ofQ used n = T .inOrder (ltb lastName n) (member used n) (ofQ && not (member outputs n))
 

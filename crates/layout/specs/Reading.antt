@@ -1,15 +1,16 @@
 -- Reading a sheet field by field (document 01, "The sheet"): the sheet as a form, and the whole answer.
 -- Assumes nothing.
 use mathlib.Core.Path.{_≡_}
+use mathlib.Core.Logic.{_⊎_}
 use mathlib.Core.Bool.{Bool, true, false, cond}
 use mathlib.Core.List.{List, [], _∷_}
 use Prim.Native.Nat.{ℕ, zero, suc, _+_, _≤_}
 use lib.Dec.{ltb}
 use lib.ListN.{length}
 use Rattle.pattern.specs.Meaning.{Range, Join, all, any, allShuffled, anyShuffled, Fragment, fragmentNames, orderingNames, Kind, once, repeated, timed, Rule}
-use Rattle.names.specs.Names.{insert, insertAll}
+use Rattle.names.specs.Names.{member, insert, insertAll}
 use Rattle.layout.specs.Terms.{Terms, withShuffles, withEndless, today}
-use Rattle.layout.specs.Layout.{Sheet, Header}
+use Rattle.layout.specs.Layout.{Sheet, Header, lastName, Input}
 use Rattle.layout.specs.Faults.{byKind, markField, versionField, outputsField, ruleCountField, kindField, countPField, countQField, triggerField, timeField, joinField, rangeCountField, nameField, uField, vField}
 use Rattle.layout.specs.Form.{Form, done, _>>=_, ask, Got, got, stopped, number, read, ComesTo}
 
@@ -130,3 +131,27 @@ pub record EndlessRefused (s : List ℕ) : Type 0 where
   pub zero : number s 2 place ≡ 0
   pub old : readSheetOn withShuffles s ≡ refused 7 place
   pub new : ¬ (readSheetOn withEndless s ≡ refused 7 place)
+
+-- ---- change 6
+
+-- bytes whose answer change 6 changes: "those sheets whose first fault is a Q name that is an input and already in the rule". The reading comes to a range's name in Q, every field before it being
+-- right; `outputs` are the sheet's, and `used` is the set of the rule's names before it
+pub record ReusedInput (s : List ℕ) (place : ℕ) : Type 0 where
+  pub outputs : ℕ
+  pub used : ℕ
+  pub comes : ComesTo today s sheet 0 (nameField outputs true used) place
+  -- it is there, and no greater than 63: it has neither 1 nor 6
+  pub inside : place + 1 ≤ length s
+  pub known : number s 1 place ≤ lastName
+  pub input : Input outputs (number s 1 place)
+  pub again : member used (number s 1 place) ≡ true
+
+-- "8 becomes 9, same place"
+pub record EightToNine (s : List ℕ) (place : ℕ) : Type 0 where
+  pub old : readSheetOn withEndless s ≡ refused 8 place
+  pub new : readSheet s ≡ refused 9 place
+
+-- "The old answers that change are those sheets", and "No other sheet is affected"
+pub record EightBecomesNine (s : List ℕ) : Type 0 where
+  pub alone : (readSheet s ≡ readSheetOn withEndless s) ⊎ ((place : ℕ) × ReusedInput s place × EightToNine s place)
+  pub every : (place : ℕ) → ReusedInput s place → EightToNine s place

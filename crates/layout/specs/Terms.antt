@@ -1,6 +1,6 @@
 -- The terms on which a sheet is read: which versions there are and what each allows, what a caller allows, and the order of the faults at a range's name. The format, the reading and what is
 -- well-formed are defined over any terms. Today's are one value; terms of before a change are another, so that what the change affects is a statement about two readings
--- (`parts`, `other-versions-stay`, `endless-alone-changes`).
+-- (`parts`, `other-versions-stay`, `endless-alone-changes`, `eight-becomes-nine`).
 -- Assumes nothing.
 use mathlib.Core.Path.{_≡_}
 use mathlib.Core.Bool.{Bool, false, cond, not}
@@ -28,9 +28,13 @@ pub record Terms : Type 0 where
   -- the order of the faults at a range's name: above the last name, already in the rule, of the wrong direction
   pub inOrder : Bool → Bool → Bool → ℕ
 
--- "At one field the order is 1, 6, 8, 9": 1 comes before any look at the value, and here stand the others
+-- document 01: "At one field the order is 1, 6, 8, 9": 1 comes before any look at the value, and here stand the others
 abbrev pub eightFirst : Bool → Bool → Bool → ℕ
 eightFirst above again misdirected = 6 when above or 8 when again or 9 when misdirected or 0
+
+-- document 02, change 6: "At a range name the order becomes 1, 6, 9, 8"
+abbrev pub nineFirst : Bool → Bool → Bool → ℕ
+nineFirst above again misdirected = 6 when above or 9 when misdirected or 8 when again or 0
 
 -- document 01's: "version (u16, 1)", "kind (0, 1, 2)", "join (0 all, 1 any)", no v = 0, "rule count (1 to 16)". That "A sheet has at most 5,774 bytes" follows (`accepted-length`), and is no fault
 abbrev pub base : Terms
@@ -64,7 +68,7 @@ withShuffles = record {
 abbrev pub firstEndless : ℕ
 firstEndless = 2
 
--- with change 2
+-- with change 2. These are the terms of before change 6
 abbrev pub withEndless : Terms
 withEndless = record {
   newest = withShuffles .newest;
@@ -76,8 +80,17 @@ withEndless = record {
   inOrder = withShuffles .inOrder;
 }
 
+-- with change 6
 abbrev pub today : Terms
-today = withEndless
+today = record {
+  newest = withEndless .newest;
+  firstKind = withEndless .firstKind;
+  lastJoin = withEndless .lastJoin;
+  endless = withEndless .endless;
+  bytes = withEndless .bytes;
+  mostRules = withEndless .mostRules;
+  inOrder = nineFirst;
+}
 
 -- terms that let in no more than rules mean and fields hold: no join that the meaning does not have, versions of 16 bits, rules for 16 of which there is room, and at a name the three faults
 pub record Covered (T : Terms) : Type 0 where

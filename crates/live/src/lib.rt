@@ -131,7 +131,7 @@ pub extern "C" fn guard4_play(
 
 // ---- versions
 
-const LIBRARY: u32 = 7;
+const LIBRARY: u32 = 8;
 
 const NEWEST_SHEET: u32 = 2;
 

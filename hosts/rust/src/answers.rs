@@ -96,9 +96,9 @@ pub enum Refusal {
     Name { place: u32 },
     /// 7: u is 0, or v < u. In version 2 a v of 0 is no upper end: u or more.
     Bounds { place: u32 },
-    /// 8: a range's name is already in the rule.
+    /// 8: a range's name is already in the rule. An input that is named in Q is 9, which is looked at first.
     NameTwice { place: u32 },
-    /// 9: a trigger that is an output, or a name of Q that is an input.
+    /// 9: a trigger that is an output, or a name of Q that is an input, already in the rule or not.
     Direction { place: u32 },
     /// 10: bytes after the last rule.
     LeftOver { place: u32 },

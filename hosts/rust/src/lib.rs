@@ -19,4 +19,4 @@ pub use log::{run, Outcome};
 pub use session::{Book, Session};
 
 /// The library's version that this package is of, as `GUARD_LIBRARY_VERSION` in `include/guard.h`. A library of another memory layout does not link.
-pub const LIBRARY_VERSION: u32 = 7;
+pub const LIBRARY_VERSION: u32 = 8;

@@ -152,6 +152,31 @@ fn refused_sheets() {
     assert_eq!((bounded(1, 2, 0), bounded(2, 2, 0)), (at_v, Ok(())));
 }
 
+/// "At a range name the order becomes 1, 6, 9, 8", for opening and for a run alike. D: kind 2, P = {0, 3} all, Q = 1 then 2, t = 10; 1, 2 and 3 are outputs. P's names are at 24 and 29,
+/// Q's at 36 and 43.
+#[test]
+fn the_order_at_a_name() {
+    const D: [u8; 48] = [
+        0x4C, 0x4F, 0x42, 1, 0, 14, 0, 0, 0, 0, 0, 0, 0, 1, 2, 1, 2, 0, 10, 0, 0, 0, 0, 2, 0, 1, 0, 1, 0, 3, 1, 0, 1, 0, 0, 1, 1, 1, 0, 1, 0, 0, 1,
+        2, 1, 0, 1, 0,
+    ];
+    let with = |at: usize, name: u8| {
+        let mut sheet = D;
+        sheet[at] = name;
+        let opened = Book::open(&sheet).map(|_| Verdict::Whole);
+        assert_eq!(guard::run(&sheet, &[], u32::MAX).answer, opened);
+        opened
+    };
+    let twice = |place| Err(Refusal::NameTwice { place });
+    let wrong_way = |place| Err(Refusal::Direction { place });
+    assert_eq!(with(43, 2), Ok(Verdict::Whole));
+    assert_eq!(with(43, 64), Err(Refusal::Name { place: 43 }));
+    // in Q an input of P, and one that the rule has not
+    assert_eq!((with(36, 0), with(43, 0), with(43, 4)), (wrong_way(36), wrong_way(43), wrong_way(43)));
+    // in Q an output twice, and an output of P; in P an input twice
+    assert_eq!((with(43, 1), with(43, 3), with(29, 0)), (twice(43), twice(43), twice(29)));
+}
+
 /// "v = 0 means that u or more occurrences are allowed": more than sixteen bits count, on a range that one fewer than u would break; and the deadline is held off meanwhile.
 #[test]
 fn a_range_without_an_upper_end() {
