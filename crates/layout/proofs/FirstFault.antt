@@ -23,28 +23,26 @@ module _ (T : Terms) (s : List ℕ) where
   abbrev fieldOf : Field → ℕ → Got ℕ
   fieldOf l at = fieldAt s (sizeOf l) (faultOf T l) at
 
-  pub data AtField (l : Field) (at : ℕ) : Type 0 where
-    is-right : RightField T s l at → fieldOf l at ≡ got (valueAt s l at) (at + sizeOf l) → AtField l at
-    has-fault : (k : ℕ) → HasFault T s l at k → fieldOf l at ≡ stopped k at → AtField l at
-
-  pub at-field : (l : Field) (at : ℕ) → AtField l at
-  unfolding fieldAt
-  at-field l at = go (ltb (length s) (at + sizeOf l)) refl (faultOf T l (valueAt s l at)) refl
-    where
-      go : (b : Bool) → ltb (length s) (at + sizeOf l) ≡ b → (k : ℕ) → faultOf T l (valueAt s l at) ≡ k → AtField l at
-      go true t k e = has-fault 1 (inl (ltb-true _ _ t, refl)) (rw t)
-      go false t zero e = is-right (record { fits = ltb-false _ _ t; faultless = e }) (rw (t, e))
-      go false t (suc k) e = has-fault (suc k) (inr (ltb-false _ _ t, e, zero-lt-suc k)) (rw (t, e))
-
-  right-field : (l : Field) (at : ℕ) → RightField T s l at → fieldOf l at ≡ got (valueAt s l at) (at + sizeOf l)
+  pub right-field : (l : Field) (at : ℕ) → RightField T s l at → fieldOf l at ≡ got (valueAt s l at) (at + sizeOf l)
   unfolding fieldAt
   right-field l at r = rw (le-ltb _ _ (r .fits), r .faultless)
 
-  faulty-field : (l : Field) (at k : ℕ) → HasFault T s l at k → fieldOf l at ≡ stopped k at
+  pub faulty-field : (l : Field) (at k : ℕ) → HasFault T s l at k → fieldOf l at ≡ stopped k at
   unfolding fieldAt
   faulty-field l at k (inl (short, one)) = rw (lt-ltb _ _ short, one)
   faulty-field l at zero (inr (fits, e, some)) = absurd (omega (arith, some))
   faulty-field l at (suc k) (inr (fits, e, some)) = rw (le-ltb _ _ fits, e)
+
+  abbrev pub AtField : Field → ℕ → Type 0
+  AtField l at = RightField T s l at ⊎ ((k : ℕ) × HasFault T s l at k)
+
+  pub at-field : (l : Field) (at : ℕ) → AtField l at
+  at-field l at = go (ltb (length s) (at + sizeOf l)) refl (faultOf T l (valueAt s l at)) refl
+    where
+      go : (b : Bool) → ltb (length s) (at + sizeOf l) ≡ b → (k : ℕ) → faultOf T l (valueAt s l at) ≡ k → AtField l at
+      go true t k e = inr (1, inl (ltb-true _ _ t, refl))
+      go false t zero e = inl (record { fits = ltb-false _ _ t; faultless = e })
+      go false t (suc k) e = inr (suc k, inr (ltb-false _ _ t, e, zero-lt-suc k))
 
   -- ---- a form
 
@@ -60,9 +58,9 @@ module _ (T : Terms) (s : List ℕ) where
     where
       go : AtField l at → (read T s (after (valueAt s l at)) (at + sizeOf l) ≡ stopped k place → FirstFault T s (after (valueAt s l at)) (at + sizeOf l) k place)
           → next (fieldOf l at) (λ x. read T s (after x)) ≡ stopped k place → FirstFault T s (field l after) at k place
-      go (is-right r q) ih e = let f = ih (rw q at e) in record { which = f .which; comes = inr (r, f .comes); has = f .has }
-      go (has-fault j h q) ih e =
-          let e′ = rw q at e in
+      go (inl r) ih e = let f = ih (rw (right-field l at r) at e) in record { which = f .which; comes = inr (r, f .comes); has = f .has }
+      go (inr (j, h)) ih e =
+          let e′ = rw (faulty-field l at j h) at e in
           record { which = l; comes = inl (sym (place-of e′), refl); has = subst (λ (p : ℕ). HasFault T s l p k) (place-of e′) (subst (HasFault T s l at) (number-of e′) h) }
 
   -- a field to which the reading comes stops it by its fault

@@ -7,15 +7,15 @@ use mathlib.Core.Bool.{Bool, true, false}
 use mathlib.Core.List.{List}
 use Prim.Native.Nat.{ℕ, zero, suc, _+_, _≤_}
 use native.Mathlib.Omega.{arith}
-use lib.Dec.{ltb, eqb}
+use lib.Dec.{eqb}
 use lib.ListN.{length}
-use borrow.Author.Tests.{ltb-false, eqb-true, eqb-false}
+use borrow.Author.Tests.{eqb-true, eqb-false}
 use Rattle.names.specs.Names.{insertAll}
 use Rattle.layout.specs.Terms.{Terms}
 use Rattle.layout.specs.Faults.{Field, sizeOf, faultOf}
-use Rattle.layout.specs.Form.{Form, done, field, _>>=_, fieldAt, read, valueAt, RightField, ComesTo}
+use Rattle.layout.specs.Form.{Form, done, field, _>>=_, read, valueAt, RightField, ComesTo}
 use Rattle.layout.specs.Reading.{several}
-use Rattle.layout.proofs.FirstFault.{AtField, is-right, has-fault, at-field}
+use Rattle.layout.proofs.FirstFault.{right-field, faulty-field, AtField, at-field}
 
 module _ (T U : Terms) (s : List ℕ) where
   -- the value of a field at a place has the same fault on both
@@ -54,28 +54,23 @@ module _ (T U : Terms) (s : List ℕ) where
         here fits t = record { which = l; place = at; one = inl (refl, refl); other = inl (refl, refl); fits = fits; differ = eqb-false (faultOf T l x) (faultOf U l x) t }
 
         look : AtField U s l at → (b : Bool) → eqb (faultOf T l x) (faultOf U l x) ≡ b → Same (after x) end ⊎ Part (after x) end → Same (field l after) at ⊎ Part (field l after) at
-        look (has-fault k (inl (short, one)) e) b t rest = inl (same-field (λ fits. absurd (omega (arith, short, fits))) (λ r. absurd (omega (arith, short, r .fits))))
-        look (has-fault k (inr (fits, e, some)) q) true t rest = inl (same-field (λ _. eqb-true _ _ t) (λ r. absurd (omega (arith, e, some, r .faultless))))
-        look (has-fault k (inr (fits, e, some)) q) false t rest = inr (here fits t)
-        look (is-right r q) false t rest = inr (here (r .fits) t)
-        look (is-right r q) true t (inl same) = inl (same-field (λ _. eqb-true _ _ t) (λ _. same))
-        look (is-right r q) true t (inr p) =
+        look (inr (k, inl (short, one))) b t rest = inl (same-field (λ fits. absurd (omega (arith, short, fits))) (λ r. absurd (omega (arith, short, r .fits))))
+        look (inr (k, inr (fits, e, some))) true t rest = inl (same-field (λ _. eqb-true _ _ t) (λ r. absurd (omega (arith, e, some, r .faultless))))
+        look (inr (k, inr (fits, e, some))) false t rest = inr (here fits t)
+        look (inl r) false t rest = inr (here (r .fits) t)
+        look (inl r) true t (inl same) = inl (same-field (λ _. eqb-true _ _ t) (λ _. same))
+        look (inl r) true t (inr p) =
             let r′ : RightField T s l at = record { fits = r .fits; faultless = eqb-true _ _ t ∙ r .faultless } in
             inr (record { which = p .which; place = p .place; one = inr (r′, p .one); other = inr (r, p .other); fits = p .fits; differ = p .differ })
 
-    -- the field is read alike
-    same-at : Same (field l after) at → fieldAt s (sizeOf l) (faultOf T l) at ≡ fieldAt s (sizeOf l) (faultOf U l) at
-    unfolding fieldAt
-    same-at same = look (ltb (length s) end) refl
-      where
-        look : (b : Bool) → ltb (length s) end ≡ b → fieldAt s (sizeOf l) (faultOf T l) at ≡ fieldAt s (sizeOf l) (faultOf U l) at
-        look true t = rw t
-        look false t = rw (t, same l at (inl (refl, refl)) (ltb-false (length s) end t))
-
     same-step : AtField U s l at → Same (field l after) at → (Same (after x) end → read T s (after x) end ≡ read U s (after x) end)
         → read T s (field l after) at ≡ read U s (field l after) at
-    same-step (is-right r e) same rest = rw (same-at same, e) (rest (λ l′ place c fits. same l′ place (inr (r, c)) fits))
-    same-step (has-fault k h e) same rest = rw (same-at same, e)
+    same-step (inl r) same rest =
+        let r′ : RightField T s l at = record { fits = r .fits; faultless = same l at (inl (refl, refl)) (r .fits) ∙ r .faultless } in
+        rw (right-field T s l at r′, right-field U s l at r) (rest (λ l′ place c fits. same l′ place (inr (r, c)) fits))
+    same-step (inr (k, inl short)) same rest = rw (faulty-field T s l at k (inl short), faulty-field U s l at k (inl short))
+    same-step (inr (k, inr (fits, e, some))) same rest =
+        rw (faulty-field T s l at k (inr (fits, same l at (inl (refl, refl)) fits ∙ e, some)), faulty-field U s l at k (inr (fits, e, some)))
 
   pub parts : {A : Type 0} (m : Form A) (at : ℕ) → Same m at ⊎ Part m at
   parts (done a) at = inl (λ l place c fits. absurd c)

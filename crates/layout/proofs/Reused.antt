@@ -65,8 +65,8 @@ nine outputs used n known input = rw (le-ltb lastName n known, input)
 
 -- ---- a sheet
 
-place-of : {j k p q : ℕ} → refused j p ≡ refused k q → p ≡ q
-place-of e = cc e
+refused-place : {j k p q : ℕ} → refused j p ≡ refused k q → p ≡ q
+refused-place e = cc e
 
 module _ (s : List ℕ) where
   alike : AlikeBut withEndless today s Twofold
@@ -124,7 +124,7 @@ module _ (s : List ℕ) where
       look (inr (p, t)) =
           let (r, c) = reused p t in
           let old : readSheetOn withEndless s ≡ refused 8 (p .place) = was-eight (p .place) r c in
-          let there : (place : ℕ) → ReusedInput s place → p .place ≡ place = λ place q. place-of (sym (is-nine (p .place) r) ∙ is-nine place q) in
+          let there : (place : ℕ) → ReusedInput s place → p .place ≡ place = λ place q. refused-place (sym (is-nine (p .place) r) ∙ is-nine place q) in
           record {
             alone = inr (p .place, r, record { old = old; new = is-nine (p .place) r });
             every = λ place q. record { old = old ∙ rw (there place q); new = is-nine place q };
@@ -148,4 +148,4 @@ such-a-sheet = look (eight-becomes-nine (timedBytes 4 3) .alone)
 
     look : (readSheet s ≡ readSheetOn withEndless s) ⊎ ((place : ℕ) × ReusedInput s place × EightToNine s place) → ReusedInput s 36
     look (inl same) = absurd (let z : _≡_ {A = ℕ} 8 9 = cc (same, reused-second .0, reused-second .1) in omega arith)
-    look (inr (place, r, c)) = subst (ReusedInput s) (place-of (sym (c .new) ∙ reused-second .0)) r
+    look (inr (place, r, c)) = subst (ReusedInput s) (refused-place (sym (c .new) ∙ reused-second .0)) r
