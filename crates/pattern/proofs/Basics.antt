@@ -87,6 +87,7 @@ none_or_some (suc k) = inr (omega arith)
 
 module _ {A : Type 0} where
   pub in_left : (x : A) (a b : List A) → In x a → In x (a ++ b)
+  in_left x [] b x'' = elim x'' [ ]
   in_left x (y ∷ a) b (inl e) = inl e
   in_left x (y ∷ a) b (inr i) = inr (in_left x a b i)
 
@@ -100,6 +101,7 @@ module _ {A : Type 0} where
   in-append x (y ∷ a) b (inr i) = elim (in-append x a b i) [ inl k ↦ inl (inr k) | inr k ↦ inr k ]
 
   pub in-replicate : (x y : A) (k : ℕ) → In x (replicate k y) → x ≡ y
+  in-replicate x y zero x'' = elim x'' [ ]
   in-replicate x y (suc k) (inl e) = e
   in-replicate x y (suc k) (inr i) = in-replicate x y k i
 
@@ -118,14 +120,17 @@ module _ {A : Type 0} where
 
   -- no element of the one is in the other
   pub distinct_apart : (x : A) (a b : List A) → Distinct (a ++ b) → In x a → In x b → ⊥
+  distinct_apart x [] b d x4 j = elim x4 [ ]
   distinct_apart x (y ∷ a) b d (inl e) j = d.0 (in_right y a b (rw e at j))
   distinct_apart x (y ∷ a) b d (inr i) j = distinct_apart x a b d.1 i j
 
   pub each_in : (P : A → Type 0) (xs : List A) → Each P xs → (x : A) → In x xs → P x
+  each_in P [] h x x4 = elim x4 [ ]
   each_in P (y ∷ xs) h x (inl e) = subst P (sym e) h.0
   each_in P (y ∷ xs) h x (inr i) = each_in P xs h.1 x i
 
   pub all→ : (t : A → Bool) (xs : List A) → T (all_of t xs) → (x : A) → In x xs → T (t x)
+  all→ t [] h x x4 = elim x4 [ ]
   all→ t (y ∷ xs) h x (inl e) = subst (λ (z : A). T (t z)) (sym e) (both_l (t y) (all_of t xs) h)
   all→ t (y ∷ xs) h x (inr i) = all→ t xs (both_r (t y) (all_of t xs) h) x i
 
@@ -134,10 +139,12 @@ module _ {A : Type 0} where
   all← t (y ∷ xs) h = both (t y) (all_of t xs) (h y (inl refl)) (all← t xs (λ x i. h x (inr i)))
 
   pub any← : (t : A → Bool) (xs : List A) (x : A) → In x xs → T (t x) → T (any_of t xs)
+  any← t [] x x4 h = elim x4 [ ]
   any← t (y ∷ xs) x (inl e) h = either_l (t y) (any_of t xs) (subst (λ (z : A). T (t z)) e h)
   any← t (y ∷ xs) x (inr i) h = either_r (t y) (any_of t xs) (any← t xs x i h)
 
   pub any→ : (t : A → Bool) (xs : List A) → T (any_of t xs) → (x : A) × In x xs × T (t x)
+  any→ t [] h = elim h [ ]
   any→ t (y ∷ xs) h = look (either (t y) (any_of t xs) h) (any→ t xs)
     where
       look : T (t y) ⊎ T (any_of t xs) → (T (any_of t xs) → (x : A) × In x xs × T (t x)) → (x : A) × In x (y ∷ xs) × T (t x)
@@ -154,15 +161,18 @@ module _ {A : Type 0} where
 
 module _ {A B : Type 0} (f : A → B) where
   pub in_map : (xs : List A) (x : A) → In x xs → In (f x) (map f xs)
+  in_map [] x x3 = elim x3 [ ]
   in_map (y ∷ xs) x (inl e) = inl (ap f e)
   in_map (y ∷ xs) x (inr i) = inr (in_map xs x i)
 
   pub of_map : (xs : List A) (y : B) → In y (map f xs) → (x : A) × In x xs × (y ≡ f x)
+  of_map [] y x' = elim x' [ ]
   of_map (z ∷ xs) y (inl e) = (z, inl refl, e)
   of_map (z ∷ xs) y (inr i) = let (x, j, e) = of_map xs y i in (x, inr j, e)
 
   -- elements with one image are one
   pub distinct-map : (xs : List A) → Distinct (map f xs) → (x y : A) → In x xs → In y xs → f x ≡ f y → x ≡ y
+  distinct-map [] d x y x6 _ q = elim x6 [ ]
   distinct-map (z ∷ xs) d x y (inl e) (inl e') q = e ∙ sym e'
   distinct-map (z ∷ xs) d x y (inl e) (inr j) q = absurd (d.0 (subst (λ (b : B). In b (map f xs)) (sym q ∙ ap f e) (in_map xs y j)))
   distinct-map (z ∷ xs) d x y (inr i) (inl e') q = absurd (d.0 (subst (λ (b : B). In b (map f xs)) (q ∙ ap f e') (in_map xs x i)))
@@ -171,6 +181,7 @@ module _ {A B : Type 0} (f : A → B) where
 -- ---- the test for membership
 
 pub is_in→ : (n : ℕ) (l : List ℕ) → T (is_in n l) → In n l
+is_in→ n [] t = elim t [ ]
 is_in→ n (m ∷ l) t = look (either (eqb n m) (is_in n l) t) (is_in→ n l)
   where
     look : T (eqb n m) ⊎ T (is_in n l) → (T (is_in n l) → In n l) → In n (m ∷ l)
@@ -178,6 +189,7 @@ is_in→ n (m ∷ l) t = look (either (eqb n m) (is_in n l) t) (is_in→ n l)
     look (inr i) ih = inr (ih i)
 
 pub is_in← : (n : ℕ) (l : List ℕ) → In n l → T (is_in n l)
+is_in← n [] x' = elim x' [ ]
 is_in← n (m ∷ l) (inl e) = either_l (eqb n m) (is_in n l) (rw (eq-eqb n m e) tt)
 is_in← n (m ∷ l) (inr i) = either_r (eqb n m) (is_in n l) (is_in← n l i)
 

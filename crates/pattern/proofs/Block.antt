@@ -1,7 +1,7 @@
 -- A fragment's matches, range by range: a word on the fragment's names matches it exactly when each range is asked what the join asks of it, a total within its bounds, in a row unless shuffled, or none at all
 -- if it may be left out. The join enters by its two questions only, and a range's bounds by `Enough` and `AtMost`.
 -- Assumes nothing.
-use mathlib.Core.Path.{◌≡◌, refl, sym, ◌∙◌}
+use mathlib.Core.Path.{◌≡◌, subst, refl, sym, ◌∙◌}
 use mathlib.Core.Logic.{◌⊎◌, inl, inr, ◌≢◌}
 use mathlib.Core.Bool.{Bool, true, false}
 use mathlib.Core.List.{List, [], ◌∷◌, ◌++◌, map}
@@ -69,6 +69,7 @@ module _ (s : Bool) where
   ]
 
   blocks-occur : (choice : List Range) (w : List ℕ) → Distinct choice → Unique choice → Blocks s choice w → (r : Range) → In r choice → Occurs s r w
+  blocks-occur [] w d u _ r x5 = elim x5 [ ]
   blocks-occur (x ∷ rs) w d u (a, b, t, block, bs) r (inl e) = rw e (block-occurs x a b w t block (elim (none_or_some (total x.name b)) [
     | inl z ↦ z
     | inr l ↦ let (y, i, q) = blocks-named rs b x.name bs l in absurd (d.0 (rw (u x y (inl refl) (inr i) q) i))
@@ -126,7 +127,7 @@ module _ (s : Bool) where
       }
         where
           inside : (x : Range) → In x (r ∷ p.choice) → In x ready × (1 ≤ total x.name whole)
-          inside x (inl q) = rw q (i, here)
+          inside x (inl q) = subst (λ (y : Range). In y ready × (1 ≤ total y.name whole)) (sym q) (i, here)
           inside x (inr ix) = let (ready-x, l) = p.within x ix in (ready-x, total-in x.name whole (less-in r.name x.name whole (in-total x.name rest l)))
 
           every : (x : Range) → In x ready → 1 ≤ total x.name whole → In x (r ∷ p.choice)

@@ -143,8 +143,8 @@ module _ (c : CheckedRule) (d : Distinct (names_of (rule_of c))) (n : ℕ) (x : 
         goes t = by_cond Here (timely_for g end e && X.good g.frag s') (into k t (a ++ w) (residual-step g.frag (a ++ w) s e.name t h)) lost
 
   led : {w : List ℕ} {p : Place X} (a : List Event) → Led w p → (w' : List ℕ) × Led w' (along p a)
-  led {w} [] h = (w, h)
-  led (e ∷ a) h = led a (go-led e h)
+  led {w} {p} [] h = (w, h)
+  led {w} {p} (e ∷ a) h = led {w = e.name ∷ []} {p = after p e} a (go-led e h)
 
   -- ---- events of the fragment, the first of them on m
 
@@ -163,7 +163,7 @@ module _ (c : CheckedRule) (d : Distinct (names_of (rule_of c))) (n : ℕ) (x : 
 
     go_on : {w : List ℕ} {p : Place X} (b : List Event) → Each (λ (e : Event). OfF e.name) b → Led (m ∷ w) p → Led (m ∷ (w ++ names b)) (along p b)
     go_on [] k h = rw append-nil h
-    go_on {w} (e ∷ b) k h = rw (← append_assoc w (e.name ∷ []) (names b)) (go_on b k.1 (goes_on e k.0 h))
+    go_on {w} {p} (e ∷ b) k h = rw (← append_assoc w (e.name ∷ []) (names b)) (go_on {w = w ++ (e.name ∷ [])} {p = after p e} b k.1 (goes_on e k.0 h))
 
     -- "can this range take one more"
     takes : {w : List ℕ} {p : Place X} → Going f x (m ∷ w) → Led (m ∷ w) p → Fitting p → Unbroken p → Unbroken (after p (record { name = x.name; time = 0 }))

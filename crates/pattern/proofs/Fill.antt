@@ -23,6 +23,7 @@ module _ (need : Slot → ℕ) where
 
   -- a name of the word is a slot's
   pub fill_on : (xs : List Slot) (m : ℕ) → In m (fill xs) → (x : Slot) × In x xs × (m ≡ x.range.name)
+  fill_on [] m h = elim h [ ]
   fill_on (x ∷ xs) m h = elim (in-append m (replicate (need x) (slot_name x)) (fill xs) h) [
     | inl i ↦ (x, inl refl, in-replicate m (slot_name x) (need x) i)
     | inr i ↦ let (y, k, e) = fill_on xs m i in (y, inr k, e)
@@ -45,6 +46,7 @@ module _ (need : Slot → ℕ) where
     rest-none y xs d e = fill_none xs (slot_name x) (λ z i q. d.0 (rw (ap slot_name (sym e) ∙ sym q) (in_map slot_name xs z i)))
 
     pub fill-total : (xs : List Slot) → Distinct (map (λ (z : Slot). z.range.name) xs) → In x xs → total x.range.name (fill xs) ≡ need x
+    fill-total [] d x3 = elim x3 [ ]
     fill-total (y ∷ xs) d (inl e) =
         let here : total (slot_name x) (replicate (need y) (slot_name y)) ≡ need x = rw (← e) (total-same (slot_name x) (need x)) in
         let there = rest-none y xs d e in
@@ -55,6 +57,7 @@ module _ (need : Slot → ℕ) where
         total-append (slot_name x) (replicate (need y) (slot_name y)) (fill xs) ∙ omega arith
 
     pub fill-row : (xs : List Slot) → Distinct (map (λ (z : Slot). z.range.name) xs) → In x xs → T (row x.range.name (fill xs))
+    fill-row [] d x3 = elim x3 [ ]
     fill-row (y ∷ xs) d (inl e) = rw (← e) (row_block (slot_name x) (need x) (fill xs) (rest-none y xs d e))
     fill-row (y ∷ xs) d (inr i) = row-past (slot_name x) (need y) (slot_name y) (fill xs) (apart_from y xs d i) (fill-row xs d.1 i)
 

@@ -23,10 +23,12 @@ use Rattle.pattern.proofs.Rules.{CheckedRule, CheckedKind, once', repeated', tim
 -- ---- a name of a rule is in one fragment of its round
 
 pub in-fragments : (fs : List Fragment) (f : Fragment) (m : ℕ) → In f fs → In m (fragment_names f) → In m (ordering_names fs)
+in-fragments [] f m x'' i = elim x'' [ ]
 in-fragments (g ∷ fs) f m (inl e) i = in_left m (fragment_names g) (ordering_names fs) (rw e at i)
 in-fragments (g ∷ fs) f m (inr k) i = in_right m (fragment_names g) (ordering_names fs) (in-fragments fs f m k i)
 
 pub same-fragment : (fs : List Fragment) → Distinct (ordering_names fs) → (f g : Fragment) → In f fs → In g fs → (m : ℕ) → In m (fragment_names f) → In m (fragment_names g) → f ≡ g
+same-fragment [] d f g x5 _ m i k = elim x5 [ ]
 same-fragment (h ∷ fs) d f g (inl e) (inl e') m i k = e ∙ sym e'
 same-fragment (h ∷ fs) d f g (inl e) (inr j) m i k = absurd (distinct_apart m (fragment_names h) (ordering_names fs) d (rw e at i) (in-fragments fs g m j k))
 same-fragment (h ∷ fs) d f g (inr j) (inl e) m i k = absurd (distinct_apart m (fragment_names h) (ordering_names fs) d (rw e at k) (in-fragments fs f m j i))

@@ -63,6 +63,7 @@ module _ (n : ℕ) where
   total-together true a b w h = total-shuffle w a b h
 
   pub total-in : (w : List ℕ) → In n w → 1 ≤ total n w
+  total-in [] x' = elim x' [ ]
   total-in (m ∷ w) (inl e) = rw (eq-eqb m n (sym e)) (omega arith)
   total-in (m ∷ w) (inr i) = elim (same? m n) [ inl e ↦ rw (eq-eqb m n e) (omega arith) | inr d ↦ rw (ne_eqb m n d) (total-in w i) ]
 
@@ -126,6 +127,7 @@ module _ (n : ℕ) where
   less-length (m ∷ w) = elim (same? m n) [ inl e ↦ rw (eq-eqb m n e) (omega (arith, less-length w)) | inr d ↦ rw (ne_eqb m n d) (omega (arith, less-length w)) ]
 
   pub less-in : (x : ℕ) (w : List ℕ) → In x (less n w) → In x w
+  less-in x [] h = elim h [ ]
   less-in x (m ∷ w) h = elim (same? m n) [ inl e ↦ inr (less-in x w (rw (eq-eqb m n e) at h)) | inr d ↦ elim (rw (ne_eqb m n d) at h) [ inl q ↦ inl q | inr i ↦ inr (less-in x w i) ] ]
 
   less_none : (w : List ℕ) → total n w ≡ 0 → less n w ≡ w
