@@ -59,10 +59,12 @@ one-distinct (f ∷ fs) (suc n) h d = one-distinct fs n (omega arith) (distinct-
 
 -- where a list of names, and then a list of fragments, has it
 pub name-place : (rs : List Range) (m : ℕ) → In m (map (λ (r : Range). r.name) rs) → (k : ℕ) × (k < length rs) × (m ≡ name_of rs k)
+name-place [] m x' = elim x' [ ]
 name-place (r ∷ rs) m (inl e) = (0, omega arith, e)
 name-place (r ∷ rs) m (inr i) = let (k, h, e) = name-place rs m i in (suc k, (let g : k < length rs = h in omega arith), e)
 
 pub ordering-place : (fs : List Fragment) (m : ℕ) → In m (ordering_names fs) → (n : ℕ) × (i : ℕ) × (n < length fs) × (i < length (ranges_of fs n)) × (m ≡ name_of (ranges_of fs n) i)
+ordering-place [] m h = elim h [ ]
 ordering-place (f ∷ fs) m h = look (in_either m (fragment_names f) (ordering_names fs) h) (ordering-place fs m)
   where
     look : In m (fragment_names f) ⊎ In m (ordering_names fs) → (In m (ordering_names fs) → (n : ℕ) × (i : ℕ) × (n < length fs) × (i < length (ranges_of fs n)) × (m ≡ name_of (ranges_of fs n) i)) → (n : ℕ) × (i : ℕ) × (n < length (f ∷ fs)) × (i < length (ranges_of (f ∷ fs) n)) × (m ≡ name_of (ranges_of (f ∷ fs) n) i)

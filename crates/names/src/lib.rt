@@ -1,5 +1,7 @@
 // Sets of names (document 01): "Sets of names are 64-bit words, one bit a name." "Membership, disjointness and output direction by shifts and masks on u64,
 // proved against sets of numbers." Every word and every number is taken: one of 64 or more is no name, and is in no set.
+#![tactic(auto)]
+
 ghost use Rattle.std.specs.Prelude.{◌≡◌};
 ghost use Rattle.names.specs.Names.{member, with_name, TellsDisjoint};
 

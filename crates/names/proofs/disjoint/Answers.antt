@@ -2,14 +2,10 @@
 use lib.Bits.{bit_and}
 use borrow.Author.Tests.{eqb-true, eq-eqb}
 use Rattle.names.proofs.Sets.{and-disjoint, disjoint-and}
-use Rattle.names.proofs.disjoint.Statement.{statement}
-use Rattle.names.proofs.disjoint.Tie as tie
+use Rattle.names.proofs.disjoint.Goals as goal
 
-returns : tie.Need-returns
+pub returns : goal.returns
 returns c = record {
   apart = λ e. and-disjoint c.args.a c.args.b (eqb-true _ _ e);
   exact = λ h. eq-eqb (bit_and c.args.a c.args.b) 0 (disjoint-and c.args.a c.args.b h);
 }
-
-pub disjoint-spec : {M : Type 1} → statement M
-disjoint-spec = tie.close (tie.spec returns)
