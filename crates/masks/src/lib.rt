@@ -1,6 +1,8 @@
 // Sets of rules (document 01): "a 16-bit mask of the rules". Rule r is in a mask if bit r is set. Every mask and every number is taken: one of 16 or more is no rule,
 // and is in no mask. And sets of a fragment's ranges: "1 to 8 ranges", so a set has 8 bits, and range i is in it if bit i is set; of a range's number the lowest three bits count.
 // The sets of a range's states that `recogniser` makes have this form too.
+#![tactic(auto)]
+
 ghost use Rattle.std.specs.Prelude.{◌≡◌, ◌%◌};
 ghost use Rattle.names.specs.Names.{member};
 ghost use Rattle.masks.specs.Masks.{Union, Without, Lowest, Rest, Put};

@@ -1,5 +1,7 @@
 // The recogniser of a range (document 01): one move, in document 01's numbers, and the count one event later. Every number stands for a state, a class or a join, so nothing is asked of them.
 // `next_state` is what a caller asks. Its inside is a formula (document 02, change 4): no table is looked up, and no branch is taken where the compiler selects, as it does on x86-64.
+#![tactic(auto)]
+
 ghost use Rattle.std.specs.Prelude.{◌≡◌, cond, ◌||◌, ◌+◌, ◌<◌, min, leb, ltb, eqb};
 ghost use Rattle.bits.specs.Bits.{flag};
 ghost use Rattle.pattern.specs.Meaning.{may_be_left_out, shuffled};

@@ -1,5 +1,7 @@
 // What a number of a book's tables holds (document 01): a rule's eight bytes, a fragment's join and count of ranges, a range's name and bounds; and, in the table that observing looks up, a
 // rule's cells, its t, and the mask of the rules that hold a name.
+#![tactic(auto)]
+
 ghost use Rattle.std.specs.Prelude.{◌≡◌, cond, eqb, ◌<◌};
 ghost use Rattle.tables.specs.Cells.{fragment_in, before_in, last_in, frees_in, index_in, less_in, join_of_cell, shuffled_in, least_in, most_in, in_p_in, in_q_in, ends_p_in, mask_in};
 ghost use Rattle.tables.specs.Words.{cap, kind_in, count_p_in, count_q_in, trigger_in, time_in, round_in, join_in, count_in, bit_in, low_in, high_in};

@@ -7,18 +7,13 @@ use native.Mathlib.Omega.{arith}
 use lib.Count.{count_trailing_zeros}
 use Rattle.names.specs.Names.{member}
 use Rattle.masks.proofs.Words.{lowest-inside, lowest-least, lowest-below}
-use borrow.Author.Rules.{rules}
-use Rattle.masks.proofs.lowest.Statement.{statement}
-use Rattle.masks.proofs.lowest.Tie as tie
-
-cast-result : tie.Need-overflow-cast-result
-cast-result c = search rules
+use Rattle.masks.proofs.lowest.Goals as goal
 
 -- the count is a rule's number already, so the remainder is the count itself
 is-inside : (r t m : ℕ) → r ≡ t → member m t ≡ true → member m r ≡ true
 is-inside r t m e p = rw e p
 
-returns : tie.Need-returns
+pub returns : goal.returns
 returns c =
     let m = c.args.mask in
     let t = count_trailing_zeros 16 m in
@@ -27,6 +22,3 @@ returns c =
       inside = λ h. is-inside _ t m (omega (arith, lowest-below 16 m h (omega arith))) (lowest-inside 16 m h (omega arith));
       least = λ h k g. lowest-least 16 m k (omega (arith, lowest-below 16 m h (omega arith)));
     }
-
-pub lowest-spec : {M : Type 1} → statement M
-lowest-spec = tie.close (tie.spec cast-result returns)

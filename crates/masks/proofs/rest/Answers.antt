@@ -10,9 +10,7 @@ use Rattle.names.specs.Names.{member}
 use Rattle.names.proofs.Digits.{member-and}
 use Rattle.masks.specs.Masks.{Rest}
 use Rattle.masks.proofs.Words.{and-fewer, rest-members, lowest-one}
-use borrow.Author.Rules.{rules}
-use Rattle.masks.proofs.rest.Statement.{statement}
-use Rattle.masks.proofs.rest.Tie as tie
+use Rattle.masks.proofs.rest.Goals as goal
 
 rests : (mask : ℕ) → mask < 65536 → Rest mask (bit_and mask (mask - 1))
 rests mask g r h low =
@@ -23,14 +21,8 @@ rests mask g r h low =
       fewer = λ p. and-fewer mask (mask - 1) r p (members r ∙ ap (λ (x : Bool). member mask r && not x) (eq-eqb r r refl) ∙ and-false (member mask r));
     }
 
-returns : tie.Need-returns
-returns c = λ r h low. absurd (omega (arith, c.if1.true, h))
+pub returns-then-mask-eq0 : goal.returns-then-mask-eq0
+returns-then-mask-eq0 c = λ r h low. absurd (omega (arith, c.if-mask-eq0.true, h))
 
-sub-result : tie.Need-overflow-sub-result
-sub-result c = search rules
-
-returns-2 : tie.Need-returns-2
-returns-2 c = rests c.before.args.mask (omega arith)
-
-pub rest-spec : {M : Type 1} → statement M
-rest-spec = tie.close (tie.spec returns sub-result returns-2)
+pub returns : goal.returns
+returns c = rests c.args.mask (omega arith)
