@@ -1,4 +1,6 @@
 // A cell of a book's table: what a rule says of one of its names, as one number made of the rule's head and the words of the fragment and the range that the name is in.
+#![tactic(auto)]
+
 ghost use Rattle.std.specs.Prelude.{◌≡◌, ◌<◌};
 ghost use Rattle.bits.specs.Bits.{flag};
 ghost use Rattle.tables.specs.Words.{round_in};

@@ -1,5 +1,7 @@
 // What time adds to a rule (document 01): "The table knows no time; the deadline is added to it." By what a cell says of its fragment: when P ended, and whether an event, or a rule whose
 // deadline runs, is after the deadline. Sums are computed in u64, and never wrap.
+#![tactic(auto)]
+
 ghost use Rattle.std.specs.Prelude.{◌≡◌};
 ghost use Rattle.deadline.specs.Deadlines.{overdue_of, late_of, end_of};
 

@@ -1,5 +1,7 @@
 // The eight recogniser states and the eight counts of the fragment that a rule stands at (document 01, "The recogniser of a range"; document 02, change 1): both before the fragment's first
 // event, and with one of them replaced. No array is written at a place that is not known: new states come from one word, and new counts from eight choices, which the compiler makes at once.
+#![tactic(auto)]
+
 ghost use Rattle.std.specs.Prelude.{◌≡◌, cond, ◌+◌, ◌*◌, ◌/◌, ◌%◌, ◌-◌, ◌^◌, ◌<◌, get_or, set};
 ghost use Rattle.recogniser.specs.Counts.{saturated};
 ghost use Rattle.tables.specs.Cells.{less_in};

@@ -1,6 +1,8 @@
 // What a monitor keeps of one rule (document 01, "The recogniser of a range"; document 02, change 1): "its fragment number, eight recogniser states, .. and the end time of P", and
 // "eight counts for a fragment where it kept one". It goes in and out of the step by value.
 // The first state also says whether the rule is at rest: 1, nothing has come; 0, its trigger of kind 0 has released it.
+#![tactic(auto)]
+
 #[derive(Drop)]
 pub struct RuleState {
     pub fragment: u8,
