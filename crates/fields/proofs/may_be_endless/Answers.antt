@@ -4,8 +4,7 @@ use mathlib.Core.Bool.{Bool, true, false, not}
 use Prim.Native.Nat.{ℕ}
 use lib.Dec.{leb, ltb}
 use borrow.Author.Tests.{le-leb, lt-leb, ltb-true, ltb-false}
-use Rattle.fields.proofs.may_be_endless.Statement.{statement}
-use Rattle.fields.proofs.may_be_endless.Tie as tie
+use Rattle.fields.proofs.may_be_endless.Goals as goal
 
 not-below : (a b : ℕ) → leb a b ≡ not (ltb b a)
 not-below a b = look (ltb b a) refl
@@ -14,8 +13,5 @@ not-below a b = look (ltb b a) refl
     look true e = lt-leb a b (ltb-true b a e)
     look false e = le-leb a b (ltb-false b a e)
 
-returns : tie.Need-returns
+pub returns : goal.returns
 returns c = not-below 2 c.args.version
-
-pub may-be-endless-spec : {M : Type 1} → statement M
-may-be-endless-spec = tie.close (tie.spec returns)
