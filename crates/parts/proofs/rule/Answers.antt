@@ -20,9 +20,7 @@ use Rattle.layout.proofs.Fields.{bytes_of}
 use Rattle.layout.proofs.Parts.{header-sound, nothing, made, header_of_lem, fragments-length, read-rule}
 use Rattle.fields.proofs.Telling.{passed, heard}
 use Rattle.parts.proofs.Loops.{fill-append}
-use borrow.Author.Rules.{rules}
-use Rattle.parts.proofs.rule.Statement.{statement}
-use Rattle.parts.proofs.rule.Tie as tie
+use Rattle.parts.proofs.rule.Goals as goal
 
 -- the trigger's fragment and Q's are the last ones of the round
 last-ones : (put : List ℕ → ℕ → Fragment → List ℕ) (outputs k n i t : ℕ) (q : List Fragment) (table : List ℕ) (j : ℕ) → ByKind outputs k n i t → length q ≡ n
@@ -67,50 +65,26 @@ module _ (s : List ℕ) (version outputs from : ℕ) where
         told (right q e z l g) = right (made h p q) (went_on ∙ rw e) z l (shown e g)
         told (wrong e pos) = wrong (went_on ∙ rw e) pos
 
-header-requires : tie.Need-header-requires
-header-requires c κs = search rules
+pub returns-then-h-ne0 : goal.returns-then-h-ne0
+returns-then-h-ne0 c = passed (stop-header _ _ _ _) c.header-h.ensures c.if-h-ne0.true c.halt.ensures
 
-halt-requires : tie.Need-halt-requires
-halt-requires c κs = search rules
+pub fragments-p-requires : goal.fragments-p-requires
+fragments-p-requires c = ((heard c.header-h.ensures c.if-h-ne0.false).2, omega (arith, (heard c.header-h.ensures c.if-h-ne0.false).3.few))
 
-returns : tie.Need-returns
-returns c = passed (stop-header _ _ _ _) c.before.before.before.header.ensures c.before.if1.true c.halt.ensures
+pub returns-then-p-ne0 : goal.returns-then-p-ne0
+returns-then-p-ne0 c = passed (stop-p _ _ _ _ (heard c.header-h.ensures c.if-h-ne0.false).1 (heard c.header-h.ensures c.if-h-ne0.false).3) c.fragments-p.ensures c.if-p-ne0.true (refl, refl)
 
-mul-heads : tie.Need-overflow-mul-heads
-mul-heads c = search rules
+pub overflow_add-k : goal.overflow_add-k
+overflow_add-k c = omega (arith, (heard c.header-h.ensures c.if-h-ne0.false).3.few)
 
-element-write-heads : tie.Need-element-write-heads
-element-write-heads c = search rules
+pub trigger_fragment-requires : goal.trigger_fragment-requires
+trigger_fragment-requires c = omega (arith, (heard c.header-h.ensures c.if-h-ne0.false).3.few)
 
-mul-fragments : tie.Need-overflow-mul-fragments
-mul-fragments c = search rules
+pub overflow_add-k-2 : goal.overflow_add-k-2
+overflow_add-k-2 c = omega (arith, (heard c.header-h.ensures c.if-h-ne0.false).3.few)
 
-fragments-requires : tie.Need-fragments-requires
-fragments-requires c κs = ((heard c.before.before.before.before.header.ensures c.before.before.if1.false).2, omega (arith, (heard c.before.before.before.before.header.ensures c.before.before.if1.false).3.few))
+pub fragments-requires : goal.fragments-requires
+fragments-requires c = ((heard c.fragments-p.ensures c.if-p-ne0.false).2, omega (arith, (heard c.header-h.ensures c.if-h-ne0.false).3.few))
 
-returns-2 : tie.Need-returns-2
-returns-2 c = passed (stop-p _ _ _ _ (heard c.before.before.before.before.before.before.before.header.ensures c.before.before.before.before.before.if1.false).1 (heard c.before.before.before.before.before.before.before.header.ensures c.before.before.before.before.before.if1.false).3) c.before.before.fragments.ensures c.if2.true (refl, refl)
-
-mul-trigger-fragment : tie.Need-overflow-mul-trigger-fragment
-mul-trigger-fragment c = search rules
-
-add-trigger-fragment : tie.Need-overflow-add-trigger-fragment
-add-trigger-fragment c = omega (arith, (heard c.before.before.before.before.before.before.before.before.before.header.ensures c.before.before.before.before.before.before.before.if1.false).3.few)
-
-trigger-fragment-requires : tie.Need-trigger-fragment-requires
-trigger-fragment-requires c κs = omega (arith, (heard c.before.before.before.before.before.before.before.before.before.header.ensures c.before.before.before.before.before.before.before.if1.false).3.few)
-
-mul-fragments-2 : tie.Need-overflow-mul-fragments-2
-mul-fragments-2 c = search rules
-
-add-fragments : tie.Need-overflow-add-fragments
-add-fragments c = omega (arith, (heard c.before.before.before.before.before.before.before.before.before.before.before.before.header.ensures c.before.before.before.before.before.before.before.before.before.before.if1.false).3.few)
-
-fragments-requires-2 : tie.Need-fragments-requires-2
-fragments-requires-2 c κs = ((heard c.before.before.before.before.before.before.before.fragments.ensures c.before.before.before.before.before.if2.false).2, omega (arith, (heard c.before.before.before.before.before.before.before.before.before.before.before.before.header.ensures c.before.before.before.before.before.before.before.before.before.before.if1.false).3.few))
-
-returns-3 : tie.Need-returns-3
-returns-3 c = told _ _ _ _ (heard c.before.before.before.before.before.before.before.before.before.before.before.before.before.header.ensures c.before.before.before.before.before.before.before.before.before.before.before.if1.false).1 (heard c.before.before.before.before.before.before.before.before.before.before.before.before.before.header.ensures c.before.before.before.before.before.before.before.before.before.before.before.if1.false).3 (heard c.before.before.before.before.before.before.before.before.fragments.ensures c.before.before.before.before.before.before.if2.false).1 (heard c.before.before.before.before.before.before.before.before.fragments.ensures c.before.before.before.before.before.before.if2.false).3.names (bytes_of c.before.before.before.before.before.before.before.before.before.before.before.before.before.before.before.args.s.now (λ i. (c.before.before.before.before.before.before.before.before.before.before.before.before.before.before.shared-slice-known.given i).fits)) _ (heard c.before.before.before.before.before.before.before.before.fragments.ensures c.before.before.before.before.before.before.if2.false).3.stored c.before.before.before.trigger-fragment.ensures c.fragments2.ensures
-
-pub rule-spec : {M : Type 1} → statement M
-rule-spec = tie.close (tie.spec header-requires halt-requires returns mul-heads element-write-heads mul-fragments fragments-requires returns-2 mul-trigger-fragment add-trigger-fragment trigger-fragment-requires mul-fragments-2 add-fragments fragments-requires-2 returns-3)
+pub returns : goal.returns
+returns c = told _ _ _ _ (heard c.header-h.ensures c.if-h-ne0.false).1 (heard c.header-h.ensures c.if-h-ne0.false).3 (heard c.fragments-p.ensures c.if-p-ne0.false).1 (heard c.fragments-p.ensures c.if-p-ne0.false).3.names (bytes_of c.args.s.now (λ i. (c.type_inv.s i).fits)) _ (heard c.fragments-p.ensures c.if-p-ne0.false).3.stored c.trigger_fragment.ensures c.fragments.ensures

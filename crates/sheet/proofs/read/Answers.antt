@@ -15,9 +15,7 @@ use Rattle.sheet.specs.Answers.{read_values, pages_of, Reads}
 use Rattle.sheet.specs.declared.Pages.{Pages}
 use Rattle.sheet.specs.declared.Answer.TheVariants.{Accepted, Refused}
 use Rattle.fields.proofs.Telling.{heard, heard-stop}
-use borrow.Author.Rules.{rules}
-use Rattle.sheet.proofs.read.Statement.{statement}
-use Rattle.sheet.proofs.read.Tie as tie
+use Rattle.sheet.proofs.read.Goals as goal
 
 not-both : {S : Sheet} {k place : ℕ} {o : Outcome} → o ≡ accepted S → o ≡ refused k place → ⊥
 not-both e f = let z : ◌≡◌ {A = ℕ} 0 1 = cc (e, f) in omega arith
@@ -50,17 +48,11 @@ pages-of : {version outputs count : ℕ} {heads words table : List ℕ} (S : She
 unfolding head_table fragment_table range_table
 pages-of S w = rw (w.version', w.outputs', w.count', w.tables.heads', w.tables.fragments, w.tables.ranges)
 
-sheet-requires : tie.Need-sheet-requires
-sheet-requires c κs = search rules
+pub returns-then-r-ne0 : goal.returns-then-r-ne0
+returns-then-r-ne0 c = refuses _ _ (read-stop _ (heard-stop c.sheet-r.ensures c.if-r-ne0.true))
 
-returns : tie.Need-returns
-returns c = refuses _ _ (read-stop _ (heard-stop c.before.before.sheet.ensures c.if1.true))
+pub returns-then-r-s : goal.returns-then-r-s
+returns-then-r-s c = refuses _ _ (read_more _ (heard c.sheet-r.ensures c.if-r-ne0.false).1 c.if-r-s.true)
 
-returns-2 : tie.Need-returns-2
-returns-2 c = refuses _ _ (read_more _ (heard c.before.before.before.before.sheet.ensures c.before.before.if1.false).1 c.if2.true)
-
-returns-3 : tie.Need-returns-3
-returns-3 c = let (S, e, l, shown) = heard c.before.before.before.before.sheet.ensures c.before.before.if1.false in accepts _ _ (read_all _ e c.if2.false) (pages-of S shown)
-
-pub read_spec : {M : Type 1} → statement M
-read_spec = tie.close (tie.spec sheet-requires returns returns-2 returns-3)
+pub returns : goal.returns
+returns c = let (S, e, l, shown) = heard c.sheet-r.ensures c.if-r-ne0.false in accepts _ _ (read_all _ e c.if-r-s.false) (pages-of S shown)

@@ -16,9 +16,7 @@ use Rattle.parts.specs.Shown.{RangesShown, FragmentShown}
 use Rattle.layout.proofs.Parts.{join-number, ranges-length, read-fragment}
 use Rattle.layout.proofs.Values.{today-covered}
 use Rattle.fields.proofs.Telling.{passed, heard-number}
-use borrow.Author.Rules.{rules}
-use Rattle.parts.proofs.fragment.Statement.{statement}
-use Rattle.parts.proofs.fragment.Tie as tie
+use Rattle.parts.proofs.fragment.Goals as goal
 
 module _ (s : List ℕ) (version outputs : ℕ) (of_q : Bool) (before from : ℕ) where
   stop-first : {k place : ℕ} → field_at s 1 (join_fault today version) from ≡ stopped k place → read today s (fragment version outputs of_q before) from ≡ stopped k place
@@ -43,44 +41,23 @@ module _ (s : List ℕ) (version outputs : ℕ) (of_q : Bool) (before from : ℕ
         })
     told h k words₀ w (wrong e pos) = wrong (went_on ∙ rw e) pos
 
-join-requires : tie.Need-join-requires
-join-requires c κs = search rules
+pub returns-then-j-ne0 : goal.returns-then-j-ne0
+returns-then-j-ne0 c = passed (stop-first _ _ _ _ _ _) c.join-j.ensures c.if-j-ne0.true c.halt.ensures
 
-halt-requires : tie.Need-halt-requires
-halt-requires c κs = search rules
+pub count-n-requires : goal.count-n-requires
+count-n-requires c = (heard-number c.join-j.ensures c.if-j-ne0.false).1
 
-returns : tie.Need-returns
-returns c = passed (stop-first _ _ _ _ _ _) c.before.before.before.join.ensures c.before.if1.true c.halt.ensures
+pub returns-then-n-ne0 : goal.returns-then-n-ne0
+returns-then-n-ne0 c = passed (stop-second _ _ _ _ _ _ (heard-number c.join-j.ensures c.if-j-ne0.false).0) c.count-n.ensures c.if-n-ne0.true c.halt-then-n-ne0.ensures
 
-count-requires : tie.Need-count-requires
-count-requires c κs = (heard-number c.before.before.join.ensures c.if1.false).1
+pub fragment_word-requires : goal.fragment_word-requires
+fragment_word-requires c =
+    let count = (heard-number c.count-n.ensures c.if-n-ne0.false).2 in
+    let join = (heard-number c.join-j.ensures c.if-j-ne0.false).2 in
+    omega (arith, count, join, today-covered.joins c.args.version)
 
-halt-requires-2 : tie.Need-halt-requires-2
-halt-requires-2 c κs = search rules
+pub ranges-requires : goal.ranges-requires
+ranges-requires c = ((heard-number c.count-n.ensures c.if-n-ne0.false).1, omega (arith, (heard-number c.count-n.ensures c.if-n-ne0.false).2))
 
-returns-2 : tie.Need-returns-2
-returns-2 c = passed (stop-second _ _ _ _ _ _ (heard-number c.before.before.before.before.before.before.join.ensures c.before.before.before.before.if1.false).0) c.before.before.before.count.ensures c.before.if2.true c.halt2.ensures
-
-fragment-word-requires : tie.Need-fragment-word-requires
-fragment-word-requires c κs =
-    let count = (heard-number c.before.before.count.ensures c.if2.false).2 in
-    let join = (heard-number c.before.before.before.before.before.join.ensures c.before.before.before.if1.false).2 in
-    omega (arith, count, join, today-covered.joins c.before.before.before.before.before.before.before.args.version)
-
-mul_words : tie.Need-overflow-mul-words
-mul_words c = search rules
-
-element-write-words : tie.Need-element-write-words
-element-write-words c = search rules
-
-mul-ranges : tie.Need-overflow-mul-ranges
-mul-ranges c = search rules
-
-ranges-requires : tie.Need-ranges-requires
-ranges-requires c κs = ((heard-number c.before.before.before.before.count.ensures c.before.before.if2.false).1, omega (arith, (heard-number c.before.before.before.before.count.ensures c.before.before.if2.false).2))
-
-returns-3 : tie.Need-returns-3
-returns-3 c = told _ _ _ _ _ _ (heard-number c.before.before.before.before.before.before.before.before.join.ensures c.before.before.before.before.before.before.if1.false).0 (heard-number c.before.before.before.before.before.count.ensures c.before.before.before.if2.false).0 (heard-number c.before.before.before.before.before.before.before.before.join.ensures c.before.before.before.before.before.before.if1.false).2 _ _ c.before.before.fragment-word.ensures c.ranges-2.ensures
-
-pub fragment-spec : {M : Type 1} → statement M
-fragment-spec = tie.close (tie.spec join-requires halt-requires returns count-requires halt-requires-2 returns-2 fragment-word-requires mul_words element-write-words mul-ranges ranges-requires returns-3)
+pub returns : goal.returns
+returns c = told _ _ _ _ _ _ (heard-number c.join-j.ensures c.if-j-ne0.false).0 (heard-number c.count-n.ensures c.if-n-ne0.false).0 (heard-number c.join-j.ensures c.if-j-ne0.false).2 _ _ c.fragment_word.ensures c.ranges-2.ensures
