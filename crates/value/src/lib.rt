@@ -1,5 +1,7 @@
 // The monitor as a value (document 01, "What to write where": "Per-rule state struct holding an array of eight recogniser states, passed and returned by value"), for a session that keeps
 // one. Its calls put it into memory, make the calls of crate `monitor` there and take it out again, and promise the same.
+#![tactic(auto)]
+
 ghost use Rattle.std.specs.Prelude.{◌≡◌};
 ghost use Rattle.words.specs.Words.{held_by, Holds, nothing_taken};
 ghost use Rattle.monitor.specs.Promise.{Observes, Freshes, Says};
