@@ -14,7 +14,7 @@ use words::Memory;
 
 // "The monitor's state holds, for each rule, its fragment number, eight recogniser states, .. and the end time of P", and "eight counts for a fragment where it kept one" (document 02,
 // change 1). Beside the sixteen: the number taken, the latest time, the verdict (0 whole, 1 open, 2 broken) with its mask, and the rules whose deadline runs.
-#[derive(Drop)]
+#[derive(Clone, Copy)]
 pub struct Monitor {
     pub rules: [RuleState; 16],
     pub taken: u32,
