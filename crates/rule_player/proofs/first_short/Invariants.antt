@@ -1,10 +1,8 @@
 -- `rule_player::first_short` meets its contract. The loop's invariant: the search goes on from range i. Assumes nothing.
-use mathlib.Core.Path.{◌≡◌, refl, ◌∙◌}
+use mathlib.Core.Path.{◌≡◌}
 use Prim.Native.Nat.{◌-◌, ◌≤◌}
-use native.Mathlib.Numerals.{add-one}
-use native.Mathlib.Omega.{arith}
 use Rattle.rule_player.specs.Said.{size_by}
-use Rattle.rule_player.proofs.Said.{Searching, searching-start, searching-found, searching-more, searching-end}
+use Rattle.rule_player.proofs.Said.{Searching}
 use Rattle.rule_player.proofs.first_short.Given as goal
 
 abbrev pub invariant-loop-i : goal.invariant-loop-i

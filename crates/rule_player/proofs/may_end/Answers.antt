@@ -14,6 +14,6 @@ pub returns : goal.returns
 returns c =
     let optional : c.may_be_left_out-optional.result ≡ may_be_left_out (fragment_by c.args.x).join = rw (c.may_be_left_out-optional.ensures, c.join_in.ensures) in
     let short : c.first_short.result ≡ first_short (fragment_by c.args.x) c.args.s (needs_every (fragment_by c.args.x)) =
-        c.first_short.ensures ∙ ap (λ (b : Bool). first_short (fragment_by c.args.x) c.args.s (not b)) optional in
+    c.first_short.ensures ∙ ap (λ (b : Bool). first_short (fragment_by c.args.x) c.args.s (not b)) optional in
     let size : c.count.result ≡ length (fragment_by c.args.x).ranges = c.count.ensures ∙ sym (size_is c.args.x) in
     ap₂ (λ (a b : ℕ). not (eqb c.args.s.last 0) && eqb a b) short size

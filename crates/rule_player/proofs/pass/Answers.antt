@@ -1,12 +1,10 @@
 -- `rule_player::pass` meets its contract. The loop's invariant is `Passing`: it stands where the definition does; records and fragments left get fewer. Assumes nothing.
-use mathlib.Core.Path.{◌≡◌, sym, ◌∙◌, ap}
-use Prim.Native.Nat.{◌+◌, ◌-◌, ◌/◌, ◌≤◌, ◌<◌}
+use mathlib.Core.Path.{ap}
 use native.Mathlib.Numerals.{add-one}
 use native.Mathlib.Omega.{arith}
-use lib.ListN.{length}
 use Rattle.tables.proofs.Bounds.{round-small}
 use Rattle.rule_player.specs.Said.{ranges_at}
-use Rattle.rule_player.proofs.Passing.{fragment_count, Passing, taken_is, passing-start, passing-end, inside, passing-longer, passing-name, passing-leave, same-long}
+use Rattle.rule_player.proofs.Passing.{taken_is, passing-start, passing-end, inside, passing-longer, passing-name, passing-leave, same-long}
 use borrow.Author.Rules.{rules}
 use Rattle.rule_player.proofs.pass.Goals as goal
 

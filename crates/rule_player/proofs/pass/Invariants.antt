@@ -1,11 +1,7 @@
 -- `rule_player::pass` meets its contract. The loop's invariant is `Passing`: it stands where the definition does; records and fragments left get fewer. Assumes nothing.
-use mathlib.Core.Path.{◌≡◌, sym, ◌∙◌, ap}
+use mathlib.Core.Path.{◌≡◌}
 use Prim.Native.Nat.{◌+◌, ◌-◌, ◌/◌, ◌≤◌, ◌<◌}
-use native.Mathlib.Numerals.{add-one}
-use native.Mathlib.Omega.{arith}
 use lib.ListN.{length}
-use Rattle.tables.proofs.Bounds.{round-small}
-use Rattle.rule_player.specs.Said.{ranges_at}
 use Rattle.rule_player.proofs.Passing.{fragment_count, Passing}
 use Rattle.rule_player.proofs.pass.Given as goal
 
