@@ -1,5 +1,7 @@
 // What is observed and what it is answered (document 01, "Observing"), for every table and every monitor: an observation, an answer, and the verdict that the rules' masks give, which is
 // stored in the monitor's memory. What one observation comes to, refusals too, is `specs/Observe`; crate `observing` has its code.
+#![tactic(auto)]
+
 ghost use Rattle.answers.specs.Observe.{Judges};
 
 use rules::Masks;

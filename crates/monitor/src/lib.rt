@@ -1,6 +1,8 @@
 // The monitor of a book (document 01, "Observing"): its memory is lent and changed in place, and the book's table is lent by reference. The code of an observation is crate
 // `observing`, that of a fresh monitor crate `opening`; here stands what they promise for the book of a sheet.
 // The same monitor as a value is crate `value`.
+#![tactic(auto)]
+
 ghost use Rattle.std.specs.Prelude.{◌≡◌};
 ghost use Rattle.words.specs.Words.{held_by};
 ghost use Rattle.answers.specs.declared.Observation.TheVariants.{Event, Clock};

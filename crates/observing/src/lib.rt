@@ -1,5 +1,7 @@
 // One observation of a book's monitor (document 01, "Observing"), for every table and every monitor: the monitor's memory is lent and changed in place, and the book's table is lent by
 // reference. What it makes of the rules is crate `rules`, what it answers crate `answers`; what it means for the book of a sheet is crate `monitor`.
+#![tactic(auto)]
+
 ghost use Rattle.answers.specs.Observe.{Leaves};
 ghost use Rattle.answers.specs.declared.Observation.TheVariants.{Event, Clock};
 

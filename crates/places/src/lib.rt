@@ -1,5 +1,7 @@
 // The names of a book's rules by their places. A book's table is by names: who goes by fragments and ranges, as a sheet does, makes this first, and looks up a place's name and its cell in it.
 // Nothing is asked of the table.
+#![tactic(auto)]
+
 ghost use Rattle.std.specs.Prelude.{◌≡◌, ◌<◌, length};
 ghost use Rattle.tables.specs.Cells.{name_at};
 ghost use Rattle.places.specs.Places.{cell_of, place_count, Placed, Named};

@@ -1,4 +1,6 @@
 // One record of a log (document 01, "Running a log"): five bytes, "a name 0 to 63 or FF for a clock reading, then the time", read as an observation.
+#![tactic(auto)]
+
 ghost use Rattle.std.specs.Prelude.{◌≡◌, ◌+◌, ◌<◌, ◌≤◌, length};
 ghost use Rattle.layout.specs.Form.{number};
 ghost use Rattle.answers.specs.Cases.{seen};

@@ -1,5 +1,7 @@
 // An answer as one number, for hosts that are not written in Rattle (document 01: "answer (0 whole, 1 open, 2 broken, 3 refused); refusal number or 0; mask (u16); .. place (u32)"): an enum does
 // not cross to C. The lowest eight bits are the answer, then come refusal, mask and place.
+#![tactic(auto)]
+
 ghost use Rattle.std.specs.Prelude.{◌≡◌};
 ghost use Rattle.pattern.specs.Judge.{some_open, broken_at};
 ghost use Rattle.pattern.specs.Values.{verdict_values, refused_values};

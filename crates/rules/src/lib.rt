@@ -1,5 +1,7 @@
 // The sixteen rules at one observation (document 01, "Observing"): the monitor's memory is lent and changed in place, and the book's table is lent by reference. Only the bytes of
 // the rules that the observation concerns are read or written, and the state of each goes by value.
+#![tactic(auto)]
+
 ghost use Rattle.std.specs.Prelude.{◌≡◌, ℕ, ◌<◌, get_or};
 ghost use Rattle.step.specs.Steps.{act_of};
 ghost use Rattle.words.specs.Words.{no_state, Held, held_by, Holds};

@@ -1,0 +1,12 @@
+-- `rules::all_stepped` meets its contract. The loop's invariant is `Stepping`: the rules seen have their new states, and the masks speak of those. The rest is as in `all_waited`.
+-- Assumes nothing.
+use native.Mathlib.Omega.{arith}
+use Rattle.words.specs.Words.{Held, Holds}
+use Rattle.rules.proofs.Passing.{Stepping, stepping-start, stepping-more, stepping-end}
+use Rattle.rules.proofs.all_stepped.Given as goal
+
+abbrev pub invariant-loop-todo : goal.invariant-loop-todo
+invariant-loop-todo l = (was : Held) → Holds l.initial.m was → Stepping l.table l.noted l.who l.name l.time was l.m l.todo l.all
+
+abbrev pub decreases-loop-todo : goal.decreases-loop-todo
+decreases-loop-todo l = l.todo
