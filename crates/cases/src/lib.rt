@@ -1,52 +1,56 @@
 // The cases of cases.bin and the plays of plays.bin for the program `vectors`: their bytes read from the file, the answer due held to the one given, and how many agree counted and printed: of all,
 // by answer, by refusal, by what a break came by, of the books written back, and of the plays by their answer. reference/make.py says the files' formats.
+#![tactic(auto)]
+
 pub mod number;
 pub mod play;
 pub mod tally;
 
 use number::{four, two, wide};
+use std::io;
+use std::io::Read;
 use tally::SLOTS;
 
 // The last bytes of a case: budget (4), the answer due (12), what the break came by (1).
 pub const END: usize = 17;
 
-pub fn print(text: &[u8]) {
-    io::write_all(libc::STDOUT_FILENO, text);
+pub fn print(rt: &impl Print, text: &[u8]) -> io::Result<()> {
+    rt.write_all(text)
 }
 
-fn print_wide(n: u64) {
-    io::print_decimal(libc::STDOUT_FILENO, n);
+fn print_wide(rt: &impl Print, n: u64) -> io::Result<()> {
+    print!(rt; "{n}")
 }
 
-fn print_number(n: u32) {
-    print_wide(n as u64);
+fn print_number(rt: &impl Print, n: u32) -> io::Result<()> {
+    print_wide(rt, n as u64)
 }
 
 // The five numbers of an answer: answer, refusal, mask, taken, place.
-pub fn print_answer(a: &[u8; 12]) {
-    print_number(wide(a[0]));
-    print(b" ");
-    print_number(wide(a[1]));
-    print(b" ");
-    print_number(two(a[2], a[3]));
-    print(b" ");
-    print_number(four(a[4], a[5], a[6], a[7]));
-    print(b" ");
-    print_number(four(a[8], a[9], a[10], a[11]));
+pub fn print_answer(rt: &impl Print, a: &[u8; 12]) -> io::Result<()> {
+    print_number(rt, wide(a[0]))?;
+    print(rt, b" ")?;
+    print_number(rt, wide(a[1]))?;
+    print(rt, b" ")?;
+    print_number(rt, two(a[2], a[3]))?;
+    print(rt, b" ")?;
+    print_number(rt, four(a[4], a[5], a[6], a[7]))?;
+    print(rt, b" ")?;
+    print_number(rt, four(a[8], a[9], a[10], a[11]))
 }
 
 // Fills the first n bytes of buf, and answers whether buf has room for them and the file had them.
-pub fn read_part(fd: i32, buf: &mut [u8], n: usize) -> bool {
+pub fn read_part<R: Read>(file: &mut R, buf: &mut [u8], n: usize) -> bool {
     if n > buf.len() {
         return false;
     }
-    io::read_full(fd, &mut buf[..n]) == n
+    file.read_exact(&mut buf[..n]).is_ok()
 }
 
 // A length of two bytes, or one that no buffer has room for where the file is at its end.
-pub fn read_length(fd: i32) -> usize {
+pub fn read_length<R: Read>(file: &mut R) -> usize {
     let mut b = [0u8; 2];
-    if read_part(fd, &mut b, 2) {
+    if read_part(file, &mut b, 2) {
         number::length(b[0], b[1])
     } else {
         usize::MAX
@@ -65,31 +69,38 @@ fn due_answer(end: &[u8; END]) -> [u8; 12] {
     ]
 }
 
-fn print_difference(number: u32, out: &[u8; 12], due: &[u8; 12]) {
-    print(b"case ");
-    print_number(number);
-    print(b": ");
-    print_answer(out);
-    print(b", due ");
-    print_answer(due);
-    print(b"\n");
+fn print_difference(
+    rt: &impl Print,
+    number: u32,
+    out: &[u8; 12],
+    due: &[u8; 12],
+) -> io::Result<()> {
+    print(rt, b"case ")?;
+    print_number(rt, number)?;
+    print(rt, b": ")?;
+    print_answer(rt, out)?;
+    print(rt, b", due ")?;
+    print_answer(rt, due)?;
+    print(rt, b"\n")
 }
 
 // Counts the case as due and, where it agrees, as met.
 pub fn compare(
+    rt: &impl Print,
     number: u32,
     out: &[u8; 12],
     end: &[u8; END],
     dues: &mut [u32; SLOTS],
     mets: &mut [u32; SLOTS],
-) {
+) -> io::Result<()> {
     let due = due_answer(end);
     tally::count(dues, due[0], due[1], end[16]);
-    if check::same(out, &due) {
+    if *out == due {
         tally::count(mets, due[0], due[1], end[16]);
     } else {
-        print_difference(number, out, &due);
+        print_difference(rt, number, out, &due)?;
     }
+    Ok(())
 }
 
 // The case's sheet is accepted: what is due for it is no refusal of a sheet.
@@ -116,48 +127,68 @@ pub fn count_written(
 }
 
 // One line of the tally: how many of the cases due in a slot agree.
-fn print_slot(name: &[u8], slot: usize, dues: &[u32; SLOTS], mets: &[u32; SLOTS]) {
+fn print_slot(
+    rt: &impl Print,
+    name: &[u8],
+    slot: usize,
+    dues: &[u32; SLOTS],
+    mets: &[u32; SLOTS],
+) -> io::Result<()> {
     if slot < SLOTS {
-        print(name);
-        print(b": ");
-        print_number(mets[slot]);
-        print(b" of ");
-        print_number(dues[slot]);
-        print(b"\n");
+        print(rt, name)?;
+        print(rt, b": ")?;
+        print_number(rt, mets[slot])?;
+        print(rt, b" of ")?;
+        print_number(rt, dues[slot])?;
+        print(rt, b"\n")?;
     }
+    Ok(())
 }
 
 // In a log 13 can't arise, so it has no line.
-fn print_refusal(refusal: usize, dues: &[u32; SLOTS], mets: &[u32; SLOTS]) {
+fn print_refusal(
+    rt: &impl Print,
+    refusal: usize,
+    dues: &[u32; SLOTS],
+    mets: &[u32; SLOTS],
+) -> io::Result<()> {
     if refusal < 16 {
         if refusal != 13 {
-            print(b"refusal ");
-            print_number(refusal as u32);
-            print_slot(b"", tally::REFUSALS + refusal, dues, mets);
+            print(rt, b"refusal ")?;
+            print_number(rt, refusal as u32)?;
+            print_slot(rt, b"", tally::REFUSALS + refusal, dues, mets)?;
         }
     }
+    Ok(())
 }
 
-fn print_refusals(dues: &[u32; SLOTS], mets: &[u32; SLOTS]) {
+fn print_refusals(rt: &impl Print, dues: &[u32; SLOTS], mets: &[u32; SLOTS]) -> io::Result<()> {
     let mut refusal: usize = 1;
     while refusal <= 14 {
-        print_refusal(refusal, dues, mets);
+        print_refusal(rt, refusal, dues, mets)?;
         refusal += 1;
     }
+    Ok(())
 }
 
-pub fn print_tally(dues: &[u32; SLOTS], mets: &[u32; SLOTS]) {
-    print_slot(b"cases", tally::ALL, dues, mets);
-    print_slot(b"whole", tally::ANSWERS, dues, mets);
-    print_slot(b"open", tally::ANSWERS + 1, dues, mets);
-    print_slot(b"broken", tally::ANSWERS + 2, dues, mets);
-    print_slot(b"refused", tally::ANSWERS + 3, dues, mets);
-    print_refusals(dues, mets);
-    print_slot(b"broken by an own event", tally::CAUSES + 1, dues, mets);
-    print_slot(b"broken by a foreign event", tally::CAUSES + 2, dues, mets);
-    print_slot(b"broken by the clock", tally::CAUSES + 3, dues, mets);
-    print_slot(b"books written back", tally::WRITTEN, dues, mets);
-    print_slot(b"rounds played", tally::PLAYED, dues, mets);
-    print_slot(b"refusal 17", tally::NO_RULE, dues, mets);
-    print_slot(b"refusal 18", tally::TOO_LONG, dues, mets);
+pub fn print_tally(rt: &impl Print, dues: &[u32; SLOTS], mets: &[u32; SLOTS]) -> io::Result<()> {
+    print_slot(rt, b"cases", tally::ALL, dues, mets)?;
+    print_slot(rt, b"whole", tally::ANSWERS, dues, mets)?;
+    print_slot(rt, b"open", tally::ANSWERS + 1, dues, mets)?;
+    print_slot(rt, b"broken", tally::ANSWERS + 2, dues, mets)?;
+    print_slot(rt, b"refused", tally::ANSWERS + 3, dues, mets)?;
+    print_refusals(rt, dues, mets)?;
+    print_slot(rt, b"broken by an own event", tally::CAUSES + 1, dues, mets)?;
+    print_slot(
+        rt,
+        b"broken by a foreign event",
+        tally::CAUSES + 2,
+        dues,
+        mets,
+    )?;
+    print_slot(rt, b"broken by the clock", tally::CAUSES + 3, dues, mets)?;
+    print_slot(rt, b"books written back", tally::WRITTEN, dues, mets)?;
+    print_slot(rt, b"rounds played", tally::PLAYED, dues, mets)?;
+    print_slot(rt, b"refusal 17", tally::NO_RULE, dues, mets)?;
+    print_slot(rt, b"refusal 18", tally::TOO_LONG, dues, mets)
 }

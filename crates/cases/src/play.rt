@@ -2,6 +2,7 @@
 use crate::number::{eight, four};
 use crate::tally::SLOTS;
 use crate::{print, print_wide, tally};
+use std::io;
 
 // The numbers of a play: rule (4), time (4), the answer due (8).
 pub const NUMBERS: usize = 16;
@@ -37,23 +38,30 @@ fn slot(answer: u64) -> usize {
     tally::PLAYED
 }
 
-fn print_difference(sheet: u32, number: usize, said: u64, due: u64) {
-    print(b"sheet ");
-    print_wide(sheet as u64);
-    print(b", play ");
-    print_wide(number as u64);
-    print(b": ");
-    print_wide(said);
-    print(b", due ");
-    print_wide(due);
+fn print_difference(
+    rt: &impl Print,
+    sheet: u32,
+    number: usize,
+    said: u64,
+    due: u64,
+) -> io::Result<()> {
+    print(rt, b"sheet ")?;
+    print_wide(rt, sheet as u64)?;
+    print(rt, b", play ")?;
+    print_wide(rt, number as u64)?;
+    print(rt, b": ")?;
+    print_wide(rt, said)?;
+    print(rt, b", due ")?;
+    print_wide(rt, due)?;
     if said == due {
-        print(b", but other bytes");
+        print(rt, b", but other bytes")?;
     }
-    print(b"\n");
+    print(rt, b"\n")
 }
 
 // Counts the play as due and, where the answer agrees and the output is alike to its last byte, as met.
 pub fn compare(
+    rt: &impl Print,
     sheet: u32,
     number: usize,
     said: u64,
@@ -61,12 +69,13 @@ pub fn compare(
     numbers: &[u8; NUMBERS],
     dues: &mut [u32; SLOTS],
     mets: &mut [u32; SLOTS],
-) {
+) -> io::Result<()> {
     let due = due_answer(numbers);
     tally::bump(dues, slot(due));
     if (said == due) & alike {
         tally::bump(mets, slot(due));
     } else {
-        print_difference(sheet, number, said, due);
+        print_difference(rt, sheet, number, said, due)?;
     }
+    Ok(())
 }

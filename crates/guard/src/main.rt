@@ -1,11 +1,16 @@
 // The program (document 01, "Running a log"): "reads files book.lob and trace.lot and prints these five numbers with single spaces and a newline, budget 4,294,967,295".
+#![tactic(auto)]
+
 ghost use Rattle.std.specs.Prelude.{◌≡◌};
-ghost use Rattle.io.specs.Counts.{IsPrefixLen};
+ghost use Rattle.input.specs.Counts.{IsPrefixLen};
 ghost use Rattle.runner.specs.Log.{turned_away};
 ghost use Rattle.guard.specs.Prints.{Prints};
 
-use libc::STDOUT_FILENO;
+use input::read_full;
 use runner::Outcome;
+use std::fs::File;
+use std::io;
+use std::rt::Files;
 
 // `3 0 0 0 0`
 fn too_long() -> Outcome
@@ -34,31 +39,28 @@ fn numbers(sheet: &[u8], log: &[u8]) -> Outcome
 }
 
 // A file's bytes, as far as the buffer goes, and how many they are: "a file that can't be opened reads as empty".
-fn load(path: &[u8], buf: &mut [u8]) -> usize
+fn load(rt: &impl Files, path: &str, buf: &mut [u8]) -> usize
     ensures { IsPrefixLen result buf.new }
 {
-    let fd = os::open_read(path);
-    if fd < 0 {
-        return io::count(0, buf);
+    match File::open(rt, path) {
+        Ok(mut file) => read_full(&mut file, buf),
+        Err(_) => 0,
     }
-    let n = io::read_full(fd, buf);
-    libc::close(fd);
-    n
 }
 
-// Writes the line of the five numbers: what it says is proved, and that it is written is the kit's contract.
-fn print(o: Outcome) {
+// Writes the line of the five numbers: what it says is proved, and that it is written is std's part.
+fn print(rt: &impl Print, o: Outcome) -> io::Result<()> {
     let line = log_line::line_of(o);
     let bytes = line.bytes;
     let start = line.start;
-    io::write_all(STDOUT_FILENO, &bytes[start..]);
+    rt.write_all(&bytes[start..])
 }
 
 // One byte more than each limit is read, to see a file that goes beyond it.
-fn main() {
+fn main(rt: HostRuntime) -> io::Result<()> {
     let mut book = [0u8; 5775];
     let mut trace = [0u8; 65536];
-    let n = load(b"book.lob", &mut book);
-    let k = load(b"trace.lot", &mut trace);
-    print(numbers(&book[..n], &trace[..k]));
+    let n = load(&rt, "book.lob", &mut book);
+    let k = load(&rt, "trace.lot", &mut trace);
+    print(&rt, numbers(&book[..n], &trace[..k]))
 }

@@ -1,39 +1,37 @@
 // Replays observations through the exported calls and writes each answer: a sheet is translated, a monitor opened, and records are observed one after the other, each on what the
 // last one left. Every case is replayed twice, by value and through the session, to which the monitor is lent; each writes a line. tests/traces/make.py made the cases and says what is due. A case in the input is the monitor's taken count to start from (u32), the sheet's length (u16), the number
 // of records (u16), all little-endian, the sheet's bytes, and for each record a name or 255 for a clock reading and a time (u32).
+#![tactic(auto)]
+
 ghost use Rattle.std.specs.Prelude.{◌+◌, ◌*◌, ◌≤◌, ◌<◌, length};
 
 use answers::{Answer, Observation};
+use input::read_full;
+use std::io;
 use tables::Table;
 use value::{Answered, Monitor};
 
-const STDIN: i32 = 0;
-
-const STDOUT: i32 = 1;
-
-fn print(n: u64) {
-    io::print_decimal(STDOUT, n);
+fn print(rt: &impl Print, n: u64) -> io::Result<()> {
+    print!(rt; "{n}")
 }
 
 // w whole, o with the mask of the open rules, b with k and the mask of the rules broken, r with the refusal's number.
-fn tell(a: Answer) {
+fn tell(rt: &impl Print, a: Answer) -> io::Result<()> {
     match a {
-        Answer::Whole => {
-            io::write_all(STDOUT, b" w");
-        }
+        Answer::Whole => print!(rt; " w"),
         Answer::Open(mask) => {
-            io::write_all(STDOUT, b" o");
-            print(mask as u64);
+            print!(rt; " o")?;
+            print(rt, mask as u64)
         }
         Answer::Broken(k, mask) => {
-            io::write_all(STDOUT, b" b");
-            print(k as u64);
-            io::write_all(STDOUT, b":");
-            print(mask as u64);
+            print!(rt; " b")?;
+            print(rt, k as u64)?;
+            print!(rt; ":")?;
+            print(rt, mask as u64)
         }
         Answer::Refused(n) => {
-            io::write_all(STDOUT, b" r");
-            print(n as u64);
+            print!(rt; " r")?;
+            print(rt, n as u64)
         }
     }
 }
@@ -91,71 +89,91 @@ fn taken_by(lent: bool, m: Monitor) -> u32 {
 }
 
 // One record, observed by value or by lending the monitor to the session, and told.
-fn step(lent: bool, table: &Table, m: Monitor, o: Observation) -> Monitor {
+fn step(
+    rt: &impl Print,
+    lent: bool,
+    table: &Table,
+    m: Monitor,
+    o: Observation,
+) -> io::Result<Monitor> {
     let r = turned(lent, table, m, o);
     let answer = r.answer;
-    tell(answer);
+    tell(rt, answer)?;
     let next = r.monitor;
-    next
+    Ok(next)
 }
 
 // The records of a part of the input.
-fn observe_all(lent: bool, table: &Table, start: Monitor, log: &[u8]) -> Monitor {
+fn observe_all(
+    rt: &impl Print,
+    lent: bool,
+    table: &Table,
+    start: Monitor,
+    log: &[u8],
+) -> io::Result<Monitor> {
     let mut m = start;
     let mut at = 0usize;
     while at < log.len() {
         if log.len() - at < 5 {
-            return m;
+            return Ok(m);
         }
-        m = step(lent, table, m, observation(log, at));
+        m = step(rt, lent, table, m, observation(log, at))?;
         at = at + 5;
     }
-    m
+    Ok(m)
 }
 
-fn replay(lent: bool, taken: u32, sheet: &[u8], log: &[u8]) {
+fn replay(rt: &impl Print, lent: bool, taken: u32, sheet: &[u8], log: &[u8]) -> io::Result<()> {
     let t = book::translate(sheet);
     let b = t.book;
     let table = b.table;
     let mut m = value::start();
     m.taken = taken;
-    let last = observe_all(lent, &table, m, log);
-    io::write_all(STDOUT, b" |");
-    tell(verdict_of(lent, last));
-    io::write_all(STDOUT, b" ");
-    print(taken_by(lent, last) as u64);
-    io::write_all(STDOUT, b"\n");
+    let last = observe_all(rt, lent, &table, m, log)?;
+    print!(rt; " |")?;
+    tell(rt, verdict_of(lent, last))?;
+    print!(rt; " ")?;
+    print(rt, taken_by(lent, last) as u64)?;
+    println!(rt)
 }
 
-fn replay_part(s: &[u8], taken: u32, a: usize, e: usize, end: usize)
+fn replay_part(
+    rt: &impl Print,
+    s: &[u8],
+    taken: u32,
+    a: usize,
+    e: usize,
+    end: usize,
+) -> io::Result<()>
     requires { (a ≤ e) × ((e ≤ end) × (end ≤ length s.now)) }
 {
-    replay(false, taken, &s[a..e], &s[e..end]);
-    replay(true, taken, &s[a..e], &s[e..end]);
+    replay(rt, false, taken, &s[a..e], &s[e..end])?;
+    replay(rt, true, taken, &s[a..e], &s[e..end])
 }
 
-fn replay_all(s: &[u8]) {
+fn replay_all(rt: &impl Print, s: &[u8]) -> io::Result<()> {
     let mut at = 0usize;
     while at < s.len() {
         if s.len() - at < 8 {
-            return;
+            return Ok(());
         }
         let taken = four(s, at);
         let n = two(s, at + 4) as usize;
         let records = two(s, at + 6) as usize;
         at = at + 8;
         if s.len() - at < n + 5 * records {
-            return;
+            return Ok(());
         }
         let middle = at + n;
         let end = middle + 5 * records;
-        replay_part(s, taken, at, middle, end);
+        replay_part(rt, s, taken, at, middle, end)?;
         at = end;
     }
+    Ok(())
 }
 
-fn main() {
-    let mut buffer = io::large_buffer();
-    let n = io::read_full(STDIN, &mut buffer);
-    replay_all(&buffer[..n]);
+fn main(rt: HostRuntime) -> io::Result<()> {
+    let mut buffer = [0u8; 65536];
+    let n = read_full(&mut rt.reader(), &mut buffer);
+    replay_all(&rt, &buffer[..n])
 }

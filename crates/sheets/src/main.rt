@@ -1,44 +1,38 @@
 // Reads example sheets from standard input and writes a line for each: answer (0 accepted, 3 refused), refusal number, place. tests/sheets/make.py made the sheets, and says what
 // is due. A sheet in the input is a byte (0: the sheet alone; else every prefix of it), its length (u16, little-endian) and its bytes.
+#![tactic(auto)]
+
 ghost use Rattle.std.specs.Prelude.{◌+◌, ◌≤◌, length};
 
-const STDIN: i32 = 0;
+use input::read_full;
+use std::io;
 
-const STDOUT: i32 = 1;
-
-fn tell(s: &[u8]) {
+fn tell(rt: &impl Print, s: &[u8]) -> io::Result<()> {
     let r = sheet::read(s);
     let answer = r.answer;
     match answer {
-        sheet::Answer::Accepted => {
-            io::write_all(STDOUT, b"0 0 0\n");
-        }
-        sheet::Answer::Refused { number, place } => {
-            io::write_all(STDOUT, b"3 ");
-            io::print_decimal(STDOUT, number as u64);
-            io::write_all(STDOUT, b" ");
-            io::print_decimal(STDOUT, place as u64);
-            io::write_all(STDOUT, b"\n");
-        }
+        sheet::Answer::Accepted => println!(rt; "0 0 0"),
+        sheet::Answer::Refused { number, place } => println!(rt; "3 {number} {place}"),
     }
 }
 
 // The bytes from a to e.
-fn tell_part(s: &[u8], a: usize, e: usize)
+fn tell_part(rt: &impl Print, s: &[u8], a: usize, e: usize) -> io::Result<()>
     requires { (a ≤ e) × (e ≤ length s.now) }
 {
-    tell(&s[a..e]);
+    tell(rt, &s[a..e])
 }
 
 // Every prefix of the bytes from a to e.
-fn tell_prefixes(s: &[u8], a: usize, e: usize)
+fn tell_prefixes(rt: &impl Print, s: &[u8], a: usize, e: usize) -> io::Result<()>
     requires { (a ≤ e) × (e ≤ length s.now) }
 {
     let mut n = a;
     while n <= e {
-        tell_part(s, a, n);
+        tell_part(rt, s, a, n)?;
         n = n + 1;
     }
+    Ok(())
 }
 
 fn wide(x: u8) -> usize
@@ -56,30 +50,31 @@ fn length_at(s: &[u8], at: usize) -> usize
 }
 
 // The sheets from an offset on.
-fn tell_all(s: &[u8]) {
+fn tell_all(rt: &impl Print, s: &[u8]) -> io::Result<()> {
     let mut at = 0usize;
     while at < s.len() {
         if s.len() - at < 3 {
-            return;
+            return Ok(());
         }
         let alone = s[at] == 0;
         let n = length_at(s, at + 1);
         at = at + 3;
         if s.len() - at < n {
-            return;
+            return Ok(());
         }
         let end = at + n;
         if alone {
-            tell_part(s, at, end);
+            tell_part(rt, s, at, end)?;
         } else {
-            tell_prefixes(s, at, end);
+            tell_prefixes(rt, s, at, end)?;
         }
         at = end;
     }
+    Ok(())
 }
 
-fn main() {
-    let mut buffer = io::large_buffer();
-    let n = io::read_full(STDIN, &mut buffer);
-    tell_all(&buffer[..n]);
+fn main(rt: HostRuntime) -> io::Result<()> {
+    let mut buffer = [0u8; 65536];
+    let n = read_full(&mut rt.reader(), &mut buffer);
+    tell_all(&rt, &buffer[..n])
 }

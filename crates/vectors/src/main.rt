@@ -5,12 +5,16 @@
 // every byte of the output to those due.
 //
 // reference/make.py makes the files, says their formats, and makes what must be printed.
+#![tactic(auto)]
+
 use cases::number::four;
 use cases::play::NUMBERS;
 use cases::tally::SLOTS;
 use cases::{END, play};
 use rule_player::Played;
 use sheet_writer::Written;
+use std::fs::File;
+use std::io;
 use tables::Table;
 
 // Room for the largest sheet, for a log of two hundred records, and for the choice bytes or the output
@@ -44,7 +48,7 @@ fn fills(table: &Table, bytes: &[u8], buffer: &mut [u8]) -> bool {
             if n != bytes.len() {
                 return false;
             }
-            check::same(bytes, buffer)
+            bytes == &buffer[..]
         }
         Written::TooShort => false,
     }
@@ -91,53 +95,68 @@ fn written_back(sheet: &[u8], n: usize) -> bool {
 
 // Reads the next case and runs it, and answers whether it was there.
 fn run_case(
-    fd: i32,
+    rt: &impl Print,
+    file: &mut File,
     number: u32,
     shown: u32,
     dues: &mut [u32; SLOTS],
     mets: &mut [u32; SLOTS],
-) -> bool {
+) -> io::Result<bool> {
     let mut sheet = [0u8; SHEET_ROOM];
-    let n = cases::read_length(fd);
-    if !cases::read_part(fd, &mut sheet, n) {
-        return false;
+    let n = cases::read_length(file);
+    if !cases::read_part(file, &mut sheet, n) {
+        return Ok(false);
     }
     let mut log = [0u8; LOG_ROOM];
-    let m = cases::read_length(fd);
-    if !cases::read_part(fd, &mut log, m) {
-        return false;
+    let m = cases::read_length(file);
+    if !cases::read_part(file, &mut log, m) {
+        return Ok(false);
     }
     let mut end = [0u8; END];
-    if !cases::read_part(fd, &mut end, END) {
-        return false;
+    if !cases::read_part(file, &mut end, END) {
+        return Ok(false);
     }
     let mut out = [255u8; 12];
     call(&sheet, n, &log, m, cases::budget(&end), &mut out);
     if number < shown {
-        cases::print_answer(&out);
-        cases::print(b"\n");
+        cases::print_answer(rt, &out)?;
+        cases::print(rt, b"\n")?;
     }
-    cases::compare(number, &out, &end, dues, mets);
+    cases::compare(rt, number, &out, &end, dues, mets)?;
     cases::count_written(written_back(&sheet, n), &end, dues, mets);
-    true
+    Ok(true)
 }
 
 // Runs `total` cases, or as many as are there.
-fn run_cases(fd: i32, total: u32, shown: u32, dues: &mut [u32; SLOTS], mets: &mut [u32; SLOTS]) {
+fn run_cases(
+    rt: &impl Print,
+    file: &mut File,
+    total: u32,
+    shown: u32,
+    dues: &mut [u32; SLOTS],
+    mets: &mut [u32; SLOTS],
+) -> io::Result<()> {
     let mut number: u32 = 0;
-    while number < total && run_case(fd, number, shown, dues, mets) {
+    while number < total && run_case(rt, file, number, shown, dues, mets)? {
         number += 1;
     }
+    Ok(())
 }
 
 // Reads how many cases there are and how many of them are to be shown, and runs them.
-fn run_file(fd: i32, dues: &mut [u32; SLOTS], mets: &mut [u32; SLOTS]) {
+fn run_file(
+    rt: &impl Print,
+    file: &mut File,
+    dues: &mut [u32; SLOTS],
+    mets: &mut [u32; SLOTS],
+) -> io::Result<()> {
     let mut head = [0u8; 8];
-    if cases::read_part(fd, &mut head, 8) {
+    if cases::read_part(file, &mut head, 8) {
         let total = four(head[0], head[1], head[2], head[3]);
         let shown = four(head[4], head[5], head[6], head[7]);
-        run_cases(fd, total, shown, dues, mets);
+        run_cases(rt, file, total, shown, dues, mets)?;
     }
+    Ok(())
 }
 
 // The number of records, or 2^64 less 17 or 18.
@@ -178,111 +197,129 @@ fn play_round(
 // Reads the next play and runs it, and answers whether it was there. The records due are read into a
 // buffer that is filled as the output is: both must be alike to the end.
 fn run_play(
-    fd: i32,
+    rt: &impl Print,
+    file: &mut File,
     sheet: u32,
     number: usize,
     table: &Table,
     dues: &mut [u32; SLOTS],
     mets: &mut [u32; SLOTS],
-) -> bool {
+) -> io::Result<bool> {
     let mut choice = [0u8; PLAY_ROOM];
-    let m = cases::read_length(fd);
-    if !cases::read_part(fd, &mut choice, m) {
-        return false;
+    let m = cases::read_length(file);
+    if !cases::read_part(file, &mut choice, m) {
+        return Ok(false);
     }
-    let n = cases::read_length(fd);
+    let n = cases::read_length(file);
     let mut numbers = [0u8; NUMBERS];
-    if !cases::read_part(fd, &mut numbers, NUMBERS) {
-        return false;
+    if !cases::read_part(file, &mut numbers, NUMBERS) {
+        return Ok(false);
     }
     let mut due = [FILL; PLAY_ROOM];
-    let k = cases::read_length(fd);
-    if !cases::read_part(fd, &mut due, k) {
-        return false;
+    let k = cases::read_length(file);
+    if !cases::read_part(file, &mut due, k) {
+        return Ok(false);
     }
     let mut out = [FILL; PLAY_ROOM];
     let said = play_round(table, &numbers, &choice, m, &mut out, n);
-    let alike = check::same(&out, &due);
-    play::compare(sheet, number, said, alike, &numbers, dues, mets);
-    true
+    let alike = out == due;
+    play::compare(rt, sheet, number, said, alike, &numbers, dues, mets)?;
+    Ok(true)
 }
 
 // Runs `total` plays of a sheet, or as many as are there.
 fn run_plays(
-    fd: i32,
+    rt: &impl Print,
+    file: &mut File,
     sheet: u32,
     total: usize,
     table: &Table,
     dues: &mut [u32; SLOTS],
     mets: &mut [u32; SLOTS],
-) {
+) -> io::Result<()> {
     let mut number: usize = 0;
-    while number < total && run_play(fd, sheet, number, table, dues, mets) {
+    while number < total && run_play(rt, file, sheet, number, table, dues, mets)? {
         number += 1;
     }
+    Ok(())
 }
 
 // Runs the plays of the first n bytes of sheet.
 fn play_sheet(
-    fd: i32,
+    rt: &impl Print,
+    file: &mut File,
     number: u32,
     sheet: &[u8],
     n: usize,
     dues: &mut [u32; SLOTS],
     mets: &mut [u32; SLOTS],
-) {
+) -> io::Result<()> {
     if n > sheet.len() {
-        return;
+        return Ok(());
     }
     let t = book::translate(&sheet[..n]);
     let b = t.book;
-    let total = cases::read_length(fd);
-    run_plays(fd, number, total, &b.table, dues, mets);
+    let total = cases::read_length(file);
+    run_plays(rt, file, number, total, &b.table, dues, mets)
 }
 
 // Reads the next sheet and runs its plays, and answers whether it was there.
-fn run_sheet(fd: i32, number: u32, dues: &mut [u32; SLOTS], mets: &mut [u32; SLOTS]) -> bool {
+fn run_sheet(
+    rt: &impl Print,
+    file: &mut File,
+    number: u32,
+    dues: &mut [u32; SLOTS],
+    mets: &mut [u32; SLOTS],
+) -> io::Result<bool> {
     let mut sheet = [0u8; SHEET_ROOM];
-    let n = cases::read_length(fd);
-    if !cases::read_part(fd, &mut sheet, n) {
-        return false;
+    let n = cases::read_length(file);
+    if !cases::read_part(file, &mut sheet, n) {
+        return Ok(false);
     }
-    play_sheet(fd, number, &sheet, n, dues, mets);
-    true
+    play_sheet(rt, file, number, &sheet, n, dues, mets)?;
+    Ok(true)
 }
 
 // Runs the plays of `total` sheets, or of as many as are there.
-fn run_sheets(fd: i32, total: u32, dues: &mut [u32; SLOTS], mets: &mut [u32; SLOTS]) {
+fn run_sheets(
+    rt: &impl Print,
+    file: &mut File,
+    total: u32,
+    dues: &mut [u32; SLOTS],
+    mets: &mut [u32; SLOTS],
+) -> io::Result<()> {
     let mut number: u32 = 0;
-    while number < total && run_sheet(fd, number, dues, mets) {
+    while number < total && run_sheet(rt, file, number, dues, mets)? {
         number += 1;
     }
+    Ok(())
 }
 
 // Reads how many sheets there are, and runs their plays.
-fn run_plays_file(fd: i32, dues: &mut [u32; SLOTS], mets: &mut [u32; SLOTS]) {
+fn run_plays_file(
+    rt: &impl Print,
+    file: &mut File,
+    dues: &mut [u32; SLOTS],
+    mets: &mut [u32; SLOTS],
+) -> io::Result<()> {
     let mut head = [0u8; 4];
-    if cases::read_part(fd, &mut head, 4) {
-        run_sheets(fd, four(head[0], head[1], head[2], head[3]), dues, mets);
+    if cases::read_part(file, &mut head, 4) {
+        let total = four(head[0], head[1], head[2], head[3]);
+        run_sheets(rt, file, total, dues, mets)?;
     }
+    Ok(())
 }
 
-fn main() {
+fn main(rt: HostRuntime) -> io::Result<()> {
     let mut dues = [0u32; SLOTS];
     let mut mets = [0u32; SLOTS];
-    let fd = os::open_read(b"cases.bin");
-    if fd < 0 {
-        os::fail(b"cases.bin");
-        return;
+    match File::open(&rt, "cases.bin") {
+        Ok(mut file) => run_file(&rt, &mut file, &mut dues, &mut mets)?,
+        Err(e) => return eprintln!(rt; "cases.bin: {e}"),
     }
-    run_file(fd, &mut dues, &mut mets);
-    libc::close(fd);
-    let plays = os::open_read(b"plays.bin");
-    if plays < 0 {
-        os::fail(b"plays.bin");
-        return;
+    match File::open(&rt, "plays.bin") {
+        Ok(mut file) => run_plays_file(&rt, &mut file, &mut dues, &mut mets)?,
+        Err(e) => return eprintln!(rt; "plays.bin: {e}"),
     }
-    run_plays_file(plays, &mut dues, &mut mets);
-    libc::close(plays);
-    cases::print_tally(&dues, &mets);
+    cases::print_tally(&rt, &dues, &mets)
 }
