@@ -1,4 +1,6 @@
 // The book of a sheet (document 01: "a translated sheet is a book"): one table that has all that the sheet says, and that a monitor looks up at each event.
+#![tactic(auto)]
+
 ghost use Rattle.std.specs.Prelude.{◌≡◌, cond, ℕ, ◌<◌, ◌≤◌};
 ghost use Rattle.names.specs.Names.{member, insert};
 ghost use Rattle.tables.specs.Words.{round_in};

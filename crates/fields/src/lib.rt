@@ -1,5 +1,7 @@
 // Reads one field of a sheet (document 01, "Where each refusal is found"). Each function answers what the definition of that field does: fault 0 and the value, or a fault's number,
 // which is document 01's, and its place. An offset that is asked for is at most the end of the bytes, as the callers in `parts` and `sheet` are proved to see to.
+#![tactic(auto)]
+
 ghost use Rattle.std.specs.Prelude.{◌≡◌, not, ◌&&◌, ◌+◌, ◌<◌, ◌≤◌, ltb, eqb, length};
 ghost use Rattle.names.specs.Names.{member};
 ghost use Rattle.layout.specs.Layout.{last_kind, most_fragments, last_name};

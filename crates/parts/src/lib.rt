@@ -1,5 +1,7 @@
 // Reads the parts of a sheet (document 01, "The sheet"): ranges, fragments and rules, into the tables of its pages. Each function answers what the definition of that name does.
 // A fault is a number of document 01; 0 is none. What `rules` asks, its one caller in `sheet` is proved to give.
+#![tactic(auto)]
+
 ghost use Rattle.std.specs.Prelude.{◌≡◌, ◌+◌, ◌*◌, ◌^◌, ◌<◌, ◌≤◌, length};
 ghost use Rattle.names.specs.Names.{insert};
 ghost use Rattle.layout.specs.Form.{read};

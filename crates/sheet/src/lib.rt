@@ -1,5 +1,7 @@
 // Reads a sheet (document 01, "The sheet" and "Where each refusal is found"): its header and its rules, and whether bytes are left over.
 // A fault is a number of document 01; 0 is none.
+#![tactic(auto)]
+
 ghost use Rattle.std.specs.Prelude.{◌≡◌};
 ghost use Rattle.layout.specs.Form.{read};
 ghost use Rattle.layout.specs.Terms.{today};
