@@ -1,4 +1,6 @@
 // A monitor's memory before any observation. It does not depend on the book.
+#![tactic(auto)]
+
 ghost use Rattle.words.specs.Words.{Clean};
 ghost use Rattle.opening.specs.Fresh.{fresh_held};
 

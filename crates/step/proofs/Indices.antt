@@ -112,6 +112,9 @@ pub record Placed (rs : List Range) (ss : List State) (cs : List ℕ) (x : Slot)
   pub is : x ≡ slot_at rs ss cs place
 
 pub placed : (rs : List Range) (ss : List State) (cs : List ℕ) (x : Slot) → In x (slots rs ss cs) → Placed rs ss cs x
+placed [] ss cs x x3 = elim x3 [ ]
+placed (r ∷ rs) [] cs x x6 = elim x6 [ ]
+placed (r ∷ rs) (s ∷ ss) [] x x9 = elim x9 [ ]
 placed (r ∷ rs) (s ∷ ss) (c ∷ cs) x (inl e) = record { place = 0; inside = omega arith; is = e }
 placed (r ∷ rs) (s ∷ ss) (c ∷ cs) x (inr i) = let p = placed rs ss cs x i in record { place = suc p.place; inside = let h : p.place < length rs = p.inside in omega arith; is = p.is }
 

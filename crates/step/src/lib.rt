@@ -2,6 +2,8 @@
 // One path serves the four joins, and no loop goes over the ranges. Two sets say what the table of moves says of every range: `lacking`, those to which *next* would be an error, and `full`,
 // those to which *own* would be one. So an event looks up one cell, its own name's, and changes two ranges at most: the one that it names, and, where blocks stand in a row, the one that
 // counted. A name and a rule's number are reduced by a remainder, so that nothing is asked of them, of the table or of the state.
+#![tactic(auto)]
+
 ghost use Rattle.std.specs.Prelude.{◌≡◌, ◌%◌};
 ghost use Rattle.step.specs.Steps.{broken_of, moved_by, errs_of, spent_of, standing_of, taken_of, opened_of, closed_of, is_at, ready_as, inside_of, follows_of, outside_of, seen_of, freed_of, cell_in, act_of};
 

@@ -1,4 +1,6 @@
 // Bytes into a slice that is lent: a number's bytes from an offset on. What a run of such calls leaves is one splice, by the kit's law `sets-eq`.
+#![tactic(auto)]
+
 ghost use Rattle.std.specs.Prelude.{◌≡◌, ◌+◌, ◌≤◌, length};
 ghost use Rattle.std.proofs.lemmas.List.Edits.{sets};
 ghost use Rattle.layout.specs.Layout.{le};

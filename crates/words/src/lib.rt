@@ -1,6 +1,8 @@
 // The memory of a monitor: bytes, which a caller lends and which are changed in place. For each rule "its fragment number, eight recogniser states, .. and the end time of P", with "eight
 // counts for a fragment where it kept one" and beside them the range that came last and the two masks; then the number taken, the latest time, the verdict and its masks. A rule's state goes
 // in and out by value. All bytes are taken, and a rule's number is reduced by a remainder, so that nothing is asked of either.
+#![tactic(auto)]
+
 ghost use Rattle.std.specs.Prelude.{◌≡◌, ◌+◌, ◌%◌, ◌<◌, ◌≤◌, get_or};
 ghost use Rattle.std.proofs.lemmas.List.Edits.{sets};
 ghost use Rattle.layout.specs.Form.{number};

@@ -5,7 +5,7 @@ use Rattle.fragment.proofs.raised.Goals as goal
 
 pub returns : goal.returns
 returns c =
-    eight-raised c.args.t1 c.args.i _ _ _ _ _ _ _ _ (search rules)
+    eight-raised c.args.x c.args.i _ _ _ _ _ _ _ _ (search rules)
     c.raised_if.ensures c.raised_if-2.ensures
     c.raised_if-3.ensures c.raised_if-4.ensures
     c.raised_if-5.ensures c.raised_if-6.ensures

@@ -7,17 +7,11 @@ use Rattle.fragment.proofs.Bytes.{AreBytes, array-bytes, old_below, replaced-bel
 use borrow.Author.Rules.{rules}
 use Rattle.fragment.proofs.with_state.Goals as goal
 
-eight : (c : tie.Start) → length c.args.x ≡ 8
-eight c = c.well-formed.0.1.0.1
-
-bytes : (c : tie.Start) → AreBytes c.args.x
-bytes c = array-bytes 8 c.args.x _ c.well-formed.0
-
 pub overflow_sub-word : goal.overflow_sub-word
-overflow_sub-word c = old_below c.args.x _ c.args.state _ (eight c) (bytes c) (search rules) c.ranges.state.fits c.packed-word.ensures
+overflow_sub-word c = old_below c.args.x _ c.args.state _ (search rules) (array-bytes 8 c.args.x _ c.well_formed.0) (search rules) c.ranges.state.fits c.packed-word.ensures
 
 pub overflow_add-word : goal.overflow_add-word
-overflow_add-word c = record { fits = replaced-below c.args.x _ c.args.state _ (eight c) (bytes c) (search rules) c.ranges.state.fits c.packed-word.ensures }
+overflow_add-word c = record { fits = replaced-below c.args.x _ c.args.state _ (search rules) (array-bytes 8 c.args.x _ c.well_formed.0) (search rules) c.ranges.state.fits c.packed-word.ensures }
 
 pub returns : goal.returns
-returns c = c.spread.ensures ∙ replaced-bytes c.args.x _ c.args.state _ (eight c) (bytes c) (search rules) c.ranges.state.fits c.packed-word.ensures
+returns c = c.spread.ensures ∙ replaced-bytes c.args.x _ c.args.state _ (search rules) (array-bytes 8 c.args.x _ c.well_formed.0) (search rules) c.ranges.state.fits c.packed-word.ensures
