@@ -1,5 +1,7 @@
 // The call of a C host (document 01, "Running a log"): "A C host makes one call with sheet, log, budget and an output of at least 12 bytes."
 // "The host call looks at its output, then the whole sheet, then the log."
+#![tactic(auto)]
+
 ghost use Rattle.std.specs.Prelude.{◌≡◌, ◌≤◌, ◌++◌, length, drop};
 ghost use Rattle.host.specs.Host.{Outcomes, Calls, twelve};
 

@@ -1,4 +1,6 @@
 // Callers of the session in Rattle (document 01: "The host's session keeps one monitor, lent to the guard and changed in place"): each takes a monitor, keeps it in a local, and lends the local for one of the session's calls, by `&mut` or by `&`. They rest on the session's promises alone.
+#![tactic(auto)]
+
 ghost use Rattle.std.specs.Prelude.{◌≡◌};
 ghost use Rattle.monitor.specs.Promise.{Observes, Says};
 ghost use Rattle.value.specs.Value.{numbers_of, by_value};

@@ -1,4 +1,6 @@
 // The line that the program prints (document 01, "Running a log"): "prints these five numbers with single spaces and a newline". It is made as bytes here; writing them out is the program's.
+#![tactic(auto)]
+
 ghost use Rattle.std.specs.Prelude.{◌≡◌, [], ◌∷◌, ◌++◌, ◌+◌, ◌≤◌, ◌<◌, length};
 ghost use Rattle.log_line.specs.Line.{digit, numeral, Before, Made};
 

@@ -1,6 +1,8 @@
 // The stub that plays the plugin (document 02, change 5): "Given a book, a rule number, a time, lent choice bytes and an output, write one round of that rule as log records, all at that time."
 // One choice byte is one step: a name comes, or a fragment is left (docs/PLAYING.md). Two passes take the same steps, the first to know the round's length: "18, the chosen round is longer than
 // the output", and "neither writes anything". Nothing is asked of the table.
+#![tactic(auto)]
+
 ghost use Rattle.std.specs.Prelude.{◌≡◌, ◌+◌, ◌*◌, ◌/◌, ◌≤◌, ◌<◌, length};
 ghost use Rattle.tables.specs.Cells.{name_at};
 ghost use Rattle.places.specs.Places.{cell_of, Named};
@@ -15,7 +17,7 @@ use tables::Table;
 // ---- a fragment of the round, as the table says it
 
 // The names and the cells of its ranges, by their places. The first cell has the fragment's join and its count of ranges.
-#[derive(Drop)]
+#[derive(Clone, Copy)]
 struct Ranges {
     pub names: [u8; 8],
     pub cells: [u64; 8],
@@ -73,7 +75,7 @@ fn count(x: Ranges) -> usize
 // ---- its filling
 
 // How often each of its names has come, and which came last: 0 if nothing has come, else the range's number and 1.
-#[derive(Drop)]
+#[derive(Clone, Copy)]
 struct Filling {
     pub counts: [u64; 8],
     pub last: usize,

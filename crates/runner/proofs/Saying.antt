@@ -1,7 +1,7 @@
 -- What a verdict says that was told as an answer, and what a turn promises by the answer to its record: the cases of the code's matches.
 -- Assumes nothing.
 use mathlib.Core.Path.{◌≡◌, refl, sym, ◌∙◌, ap, subst}
-use mathlib.Core.Logic.{◌⊎◌, ⊎_elim}
+use mathlib.Core.Logic.{◌⊎◌, inl, inr, ⊎_elim}
 use mathlib.Core.Bool.{false}
 use mathlib.Core.List.{List}
 use Prim.Native.Nat.{ℕ}
@@ -29,6 +29,25 @@ numbered Whole = refl
 numbered (Open x) = refl
 numbered (Broken k x) = refl
 numbered (Refused n) = refl
+
+-- an arm that names no variant is left with those that the arms above it did not take
+pub left-whole : (a : Answer) → ((x : ℕ) → a ≡ Open x → ⊥) → ((k x : ℕ) → a ≡ Broken k x → ⊥) → (variant a ≡ 0) ⊎ (variant a ≡ 3)
+left-whole Whole o b = inl refl
+left-whole (Open x) o b = absurd (o x refl)
+left-whole (Broken k x) o b = absurd (b k x refl)
+left-whole (Refused n) o b = inr refl
+
+pub left-none : (a : Answer) → ((x : ℕ) → a ≡ Open x → ⊥) → (variant a ≡ 0) ⊎ ((variant a ≡ 2) ⊎ (variant a ≡ 3))
+left-none Whole o = inl refl
+left-none (Open x) o = absurd (o x refl)
+left-none (Broken k x) o = inr (inl refl)
+left-none (Refused n) o = inr (inr refl)
+
+pub left-on : (a : Answer) → ((k x : ℕ) → a ≡ Broken k x → ⊥) → ((n : ℕ) → a ≡ Refused n → ⊥) → (variant a ≡ 0) ⊎ (variant a ≡ 1)
+left-on Whole b r = inl refl
+left-on (Open x) b r = inr refl
+left-on (Broken k x) b r = absurd (b k x refl)
+left-on (Refused n) b r = absurd (r n refl)
 
 -- ---- the verdict that a monitor holds, told as an answer
 

@@ -1,5 +1,7 @@
 // A run over a log (document 01, "Running a log"): records are observed one after the other, from a fresh monitor, until a refusal, a break, the budget or the log's end.
 // The monitor's memory is the run's own and is changed in place; the book's table is lent by reference.
+#![tactic(auto)]
+
 ghost use Rattle.std.specs.Prelude.{◌≡◌, true, false, ◌*◌, ◌≤◌, min, length};
 ghost use Rattle.pattern.specs.Judge.{all_whole, some_open, broken_at};
 ghost use Rattle.words.specs.Words.{held_by};

@@ -1,4 +1,6 @@
 // A host's session (document 01, "Observing"): one monitor, lent to the guard and changed in place. Each call takes the state out, calls the monitor part by value and puts what it returns back; it rests on that part's promises alone.
+#![tactic(auto)]
+
 ghost use Rattle.std.specs.Prelude.{◌≡◌};
 ghost use Rattle.monitor.specs.Promise.{Observes, Freshes, Says};
 ghost use Rattle.value.specs.Value.{numbers_of, by_value};

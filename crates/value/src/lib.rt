@@ -1,5 +1,7 @@
 // The monitor as a value (document 01, "What to write where": "Per-rule state struct holding an array of eight recogniser states, passed and returned by value"), for a session that keeps
 // one. Its calls put it into memory, make the calls of crate `monitor` there and take it out again, and promise the same.
+#![tactic(auto)]
+
 ghost use Rattle.std.specs.Prelude.{◌≡◌};
 ghost use Rattle.words.specs.Words.{held_by, Holds, nothing_taken};
 ghost use Rattle.monitor.specs.Promise.{Observes, Freshes, Says};
@@ -12,7 +14,7 @@ use words::Memory;
 
 // "The monitor's state holds, for each rule, its fragment number, eight recogniser states, .. and the end time of P", and "eight counts for a fragment where it kept one" (document 02,
 // change 1). Beside the sixteen: the number taken, the latest time, the verdict (0 whole, 1 open, 2 broken) with its mask, and the rules whose deadline runs.
-#[derive(Drop)]
+#[derive(Clone, Copy)]
 pub struct Monitor {
     pub rules: [RuleState; 16],
     pub taken: u32,

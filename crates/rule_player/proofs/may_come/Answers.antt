@@ -1,0 +1,12 @@
+-- `rule_player::may_come` meets its contract. Assumes nothing.
+use mathlib.Core.Path.{sym, ◌∙◌}
+use Rattle.rule_player.proofs.Said.{comes-on, comes-new}
+use Rattle.rule_player.proofs.may_come.Goals as goal
+
+pub returns-then-goes_on : goal.returns-then-goes_on
+returns-then-goes_on c =
+    c.has_room.ensures ∙ comes-on c.args.x c.args.s c.args.i c.requires.0 (sym c.goes_on.ensures ∙ c.if-goes_on.true)
+
+pub returns : goal.returns
+returns c =
+    rw (c.may_change.ensures, c.is_new.ensures) (comes-new c.args.x c.args.s c.args.i c.requires.0 (sym c.goes_on.ensures ∙ c.if-goes_on.false))
