@@ -1,6 +1,8 @@
 // A live session for C hosts (document 01, "Observing"): "The host's session keeps one monitor, lent to the guard and changed in place". The host lends the book's table, which opening
 // writes and nothing else changes, and the monitor's memory. An answer is one number (crate `replies`). The number in a call's name is that of the layout of what is lent: a host of
 // another layout does not link.
+#![tactic(auto)]
+
 ghost use Rattle.std.specs.Prelude.{◌≡◌};
 ghost use Rattle.layout.specs.Terms.{today};
 ghost use Rattle.words.specs.Words.{held_by};

@@ -9,7 +9,6 @@ use lib.Dec.{eqb}
 use lib.ListN.{length, get_or, take, length-append, get_or-append}
 use lib.Seq.{take-suc, take-length}
 use borrow.Author.Tests.{eq-eqb, ne_eqb}
-use Rattle.bits.specs.Bits.{part}
 use Rattle.pattern.specs.Meaning.{Fragment, Kind, once, repeated, timed, Rule, WellFormedFragment, WellFormed}
 use Rattle.pattern.specs.Model.{last_fragments, round_of, no_fragment, fragment_at}
 use Rattle.layout.specs.Layout.{Sheet, le, each, in_q, range_bytes, fragment_bytes, header_of, header_bytes, rule_bytes, mark, encode, WellFormedSheet}

@@ -1,6 +1,8 @@
 // The sheet writer (document 02, change 3): "a writer from a translated book to a lent buffer. For each accepted sheet, writing its book gives the sheet's own bytes and version".
 // The book's table is by names, and a sheet is in file order: so the names are put by their places first. Then come two passes, the size and the bytes, each over the sheet's parts: "16, buffer
 // shorter than the sheet, nothing written". Nothing is asked of the table.
+#![tactic(auto)]
+
 ghost use Rattle.std.specs.Prelude.{◌≡◌, ◌+◌, ◌≤◌, ◌<◌, length};
 ghost use Rattle.std.proofs.lemmas.List.Edits.{sets};
 ghost use Rattle.layout.specs.Layout.{le, range_bytes, mark};

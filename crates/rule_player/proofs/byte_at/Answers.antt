@@ -5,4 +5,4 @@ use lib.ListN.{get_or-eq_default}
 use Rattle.rule_player.proofs.byte_at.Goals as goal
 
 pub returns : goal.returns
-returns c = sym (get_or-eq_default c.args.choice.now 0 (omega (arith, c.if-at-choice.false)))
+returns c = sym (get_or-eq_default c.args.choice.now 0 (omega arith))

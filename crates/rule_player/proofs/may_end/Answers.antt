@@ -1,11 +1,7 @@
 -- `rule_player::may_end` meets its contract. Assumes nothing.
-use mathlib.Core.Path.{◌≡◌, sym, ◌∙◌, ap, ap₂}
-use mathlib.Core.Bool.{Bool, not, ◌&&◌}
-use Prim.Native.Nat.{ℕ}
-use lib.Dec.{eqb}
+use mathlib.Core.Path.{◌≡◌, sym, ◌∙◌}
 use lib.ListN.{length}
 use Rattle.pattern.specs.Meaning.{may_be_left_out}
-use Rattle.rule_player.specs.Choice.{first_short, needs_every}
 use Rattle.rule_player.specs.Said.{fragment_by}
 use Rattle.rule_player.proofs.Said.{size_is}
 use Rattle.rule_player.proofs.may_end.Goals as goal
@@ -13,7 +9,5 @@ use Rattle.rule_player.proofs.may_end.Goals as goal
 pub returns : goal.returns
 returns c =
     let optional : c.may_be_left_out-optional.result ≡ may_be_left_out (fragment_by c.args.x).join = rw (c.may_be_left_out-optional.ensures, c.join_in.ensures) in
-    let short : c.first_short.result ≡ first_short (fragment_by c.args.x) c.args.s (needs_every (fragment_by c.args.x)) =
-    c.first_short.ensures ∙ ap (λ (b : Bool). first_short (fragment_by c.args.x) c.args.s (not b)) optional in
     let size : c.count.result ≡ length (fragment_by c.args.x).ranges = c.count.ensures ∙ sym (size_is c.args.x) in
-    ap₂ (λ (a b : ℕ). not (eqb c.args.s.last 0) && eqb a b) short size
+    cc
