@@ -13,6 +13,7 @@ pub fn overdue(limit: u32, end: u32, time: u32) -> bool
 }
 
 // An event on the cell's name is one of Q after the deadline.
+#[tactic(auto, unfolding(crate::specs::Deadlines::late_of))]
 pub fn late(cell: u64, limit: u32, end: u32, time: u32) -> bool
     ensures { result ≡ late_of cell limit end time }
 {
@@ -23,6 +24,7 @@ pub fn late(cell: u64, limit: u32, end: u32, time: u32) -> bool
 }
 
 // The end of P after an event on the cell's name.
+#[tactic(auto, unfolding(crate::specs::Deadlines::end_of))]
 pub fn ended(cell: u64, end: u32, time: u32) -> u32
     ensures { result ≡ end_of cell end time }
 {
