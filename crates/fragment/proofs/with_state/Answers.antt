@@ -1,9 +1,8 @@
 -- `fragment::with_state` meets its contract: the word less the old byte at its place, with the new one there, is the word of the list with that byte replaced.
 -- Which byte that is, each need below reads from the shifts; that it is byte i is said at the return alone.
 -- Assumes nothing.
-use mathlib.Core.Path.{◌≡◌, ◌∙◌}
-use lib.ListN.{length}
-use Rattle.fragment.proofs.Bytes.{AreBytes, array-bytes, old_below, replaced-below, replaced-bytes}
+use mathlib.Core.Path.{◌∙◌}
+use Rattle.fragment.proofs.Bytes.{array-bytes, old_below, replaced-below, replaced-bytes}
 use borrow.Author.Rules.{rules}
 use Rattle.fragment.proofs.with_state.Goals as goal
 

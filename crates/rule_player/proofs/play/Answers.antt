@@ -1,5 +1,6 @@
 -- `rule_player::play` meets its contract: the first pass writes nothing, and the second is over the same round. Assumes nothing.
-use mathlib.Core.Path.{sym, ◌∙◌}
+use mathlib.Core.Path.{◌≡◌, sym, ◌∙◌}
+use mathlib.Core.Bool.{true}
 use Rattle.rule_player.proofs.Playing.{of-sixteen, plays-none, plays-longer, plays-all}
 use Rattle.rule_player.proofs.play.Goals as goal
 
@@ -9,24 +10,28 @@ returns-then-not-has_rule c = let s = c.args in plays-none s.table.now s.rule s.
 pub pass-length-requires : goal.pass-length-requires
 pass-length-requires c =
     let s = c.args in
-    let has = sym c.has_rule.ensures ∙ c.if-not-has_rule.false in
+    let gave : c.has_rule.result ≡ true = assumption in
+    let has = sym c.has_rule.ensures ∙ gave in
     (c.places-names.ensures, of-sixteen s.table.now s.rule s.time s.choice.now s.out.now has)
 
 pub pass-requires : goal.pass-requires
 pass-requires c =
     let s = c.args in
-    let has = sym c.has_rule.ensures ∙ c.if-not-has_rule.false in
+    let gave : c.has_rule.result ≡ true = assumption in
+    let has = sym c.has_rule.ensures ∙ gave in
     (c.places-names.ensures, of-sixteen s.table.now s.rule s.time s.choice.now s.out.now has)
 
 pub returns-in-Longer : goal.returns-in-Longer
 returns-in-Longer c =
     let s = c.args in
-    let has = sym c.has_rule.ensures ∙ c.if-not-has_rule.false in
+    let gave : c.has_rule.result ≡ true = assumption in
+    let has = sym c.has_rule.ensures ∙ gave in
     plays-longer s.table.now s.rule s.time s.choice.now s.out.now has c.pass-length.result c.in-Longer.is c.pass-length.ensures
 
 pub returns-in-Fits : goal.returns-in-Fits
 returns-in-Fits c =
     let s = c.args in
-    let has = sym c.has_rule.ensures ∙ c.if-not-has_rule.false in
+    let gave : c.has_rule.result ≡ true = assumption in
+    let has = sym c.has_rule.ensures ∙ gave in
     plays-all s.table.now s.rule s.time s.choice.now s.out.now has c.pass-length.result c.pass.result c.pass-length.new.out
     c.in-Fits.is c.pass-length.ensures c.pass.ensures

@@ -1,8 +1,7 @@
 -- `rules::all_stepped` meets its contract. The loop's invariant is `Stepping`: the rules seen have their new states, and the masks speak of those. The rest is as in `all_waited`.
 -- Assumes nothing.
 use native.Mathlib.Omega.{arith}
-use Rattle.words.specs.Words.{Held, Holds}
-use Rattle.rules.proofs.Passing.{Stepping, stepping-start, stepping-more, stepping-end}
+use Rattle.rules.proofs.Passing.{stepping-start, stepping-more, stepping-end}
 use Rattle.rules.proofs.all_stepped.Goals as goal
 
 pub loop-todo-init : goal.loop-todo-init

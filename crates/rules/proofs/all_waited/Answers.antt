@@ -1,13 +1,7 @@
 -- `rules::all_waited` meets its contract. The loop's invariant is `Noting`: the masks speak of the rules seen. Each turn takes the lowest rule out of `todo`, which so becomes a smaller
 -- number: the measure. When it is 0, all have been seen. Assumes nothing.
-use mathlib.Core.List.{List}
-use Prim.Native.Nat.{ℕ}
 use native.Mathlib.Omega.{arith}
-use lib.ListN.{get_or}
-use Rattle.step.specs.declared.Standing.{Standing}
-use Rattle.words.specs.Words.{no_state, held_by}
-use Rattle.rules.specs.Pass.{waited_of}
-use Rattle.rules.proofs.Passing.{Noting, noting-start, noting-more, noting-end}
+use Rattle.rules.proofs.Passing.{noting-start, noting-more, noting-end}
 use Rattle.rules.proofs.all_waited.Invariants.{stands}
 use Rattle.rules.proofs.all_waited.Goals as goal
 

@@ -2,12 +2,11 @@
 -- number: the measure. When it is 0, all have been seen. Assumes nothing.
 use mathlib.Core.List.{List}
 use Prim.Native.Nat.{ℕ}
-use native.Mathlib.Omega.{arith}
 use lib.ListN.{get_or}
 use Rattle.step.specs.declared.Standing.{Standing}
 use Rattle.words.specs.Words.{no_state, held_by}
 use Rattle.rules.specs.Pass.{waited_of}
-use Rattle.rules.proofs.Passing.{Noting, noting-start, noting-more, noting-end}
+use Rattle.rules.proofs.Passing.{Noting}
 use Rattle.rules.proofs.all_waited.Given as goal
 
 abbrev pub stands : (table bytes : List ℕ) (time k : ℕ) → Standing

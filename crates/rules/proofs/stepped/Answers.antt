@@ -4,7 +4,6 @@ use Prim.Native.Nat.{◌%◌}
 use native.Mathlib.Omega.{arith}
 use Rattle.step.specs.declared.Stepped.{Stepped}
 use Rattle.words.specs.Words.{Held}
-use borrow.Author.Rules.{rules}
 use Rattle.rules.proofs.stepped.Goals as goal
 
 pub returns : goal.returns

@@ -1,16 +1,8 @@
 -- `step::act` meets its contract: at each return the tests are as in `act_of`, and each arm of the match is the case of what is seen. Assumes nothing.
-use mathlib.Core.Path.{◌≡◌, ◌∙◌}
-use mathlib.Core.List.{[], ◌∷◌}
-use Prim.Native.Nat.{ℕ}
-use denote.Enum.Declared.{tag_of}
-use lib.ListN.{get_or}
+use mathlib.Core.Path.{◌∙◌}
 use borrow.Author.Tests.{eq-eqb, ne_eqb}
-use Rattle.step.specs.declared.Seen.{Seen}
-use Rattle.step.specs.declared.Seen.TheVariants.{Error, Releases, Taken}
-use Rattle.step.specs.contracts.Seen.{the_type}
 use Rattle.step.specs.Steps.{act_of}
 use Rattle.step.proofs.act.Goals as goal
-
 
 pub returns-then-states-eq-IDLE : goal.returns-then-states-eq-IDLE
 unfolding act_of

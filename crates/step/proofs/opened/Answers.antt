@@ -14,7 +14,7 @@ returns c =
     -- each range lacks, or none does
     let lacking : c.if-moved-eq-ERROR.lacking ≡ cond (eqb (moved_by c.args.cell 2 2 0) 5) (ranges_of c.args.cell) 0 =
     elim c.if-moved-eq-ERROR.branch [
-      then-moved-eq-ERROR w ↦ w.lacking-is ∙ w.ranges-lacking.ensures ∙ rw (← c.moved.ensures, eq-eqb _ _ w.if-moved-eq-ERROR.true)
+      | then-moved-eq-ERROR w ↦ w.lacking-is ∙ w.ranges-lacking.ensures ∙ rw (← c.moved.ensures, eq-eqb _ _ w.if-moved-eq-ERROR.true)
       | else-moved-eq-ERROR w ↦ w.lacking-is ∙ rw (← c.moved.ensures, ne_eqb _ _ w.if-moved-eq-ERROR.false)
     ] in
     rw (c.fragment_in.ensures, c.waiting-states.ensures, lacking)

@@ -1,7 +1,6 @@
 -- `step::stands` meets its contract. Assumes nothing.
 use mathlib.Core.Path.{◌≡◌}
-use mathlib.Core.Bool.{Bool, true, false, ◌&&◌}
-use Prim.Native.Nat.{ℕ}
+use mathlib.Core.Bool.{false, ◌&&◌}
 use lib.Dec.{eqb}
 use borrow.Author.Tests.{eq-eqb, ne_eqb}
 use Rattle.tables.specs.Cells.{last_in}
@@ -19,7 +18,7 @@ returns-then-in_q c =
     -- past the first test, the round is not at its end
     let not-whole : (last_in c.args.cell && eqb c.args.lacking 0) ≡ false =
     elim c.if-is_last.branch [
-      then-is_last+else-lacking-eq0 w ↦ rw (← c.is_last.ensures, w.if-is_last.true, ne_eqb _ _ w.if-lacking-eq0.false)
+      | then-is_last+else-lacking-eq0 w ↦ rw (← c.is_last.ensures, w.if-is_last.true, ne_eqb _ _ w.if-lacking-eq0.false)
       | else-is_last w ↦ rw (← c.is_last.ensures, w.if-is_last.false)
     ] in
     rw (not-whole, ← c.in_q.ensures, c.if-in_q.true)
@@ -29,7 +28,7 @@ unfolding standing_of
 returns-then-spent c =
     let not-whole : (last_in c.args.cell && eqb c.args.lacking 0) ≡ false =
     elim c.if-is_last.branch [
-      then-is_last+else-lacking-eq0 w ↦ rw (← c.is_last.ensures, w.if-is_last.true, ne_eqb _ _ w.if-lacking-eq0.false)
+      | then-is_last+else-lacking-eq0 w ↦ rw (← c.is_last.ensures, w.if-is_last.true, ne_eqb _ _ w.if-lacking-eq0.false)
       | else-is_last w ↦ rw (← c.is_last.ensures, w.if-is_last.false)
     ] in
     rw (not-whole, ← c.in_q.ensures, c.if-in_q.false, ← c.spent.ensures, c.if-spent.true)
@@ -39,7 +38,7 @@ unfolding standing_of
 returns c =
     let not-whole : (last_in c.args.cell && eqb c.args.lacking 0) ≡ false =
     elim c.if-is_last.branch [
-      then-is_last+else-lacking-eq0 w ↦ rw (← c.is_last.ensures, w.if-is_last.true, ne_eqb _ _ w.if-lacking-eq0.false)
+      | then-is_last+else-lacking-eq0 w ↦ rw (← c.is_last.ensures, w.if-is_last.true, ne_eqb _ _ w.if-lacking-eq0.false)
       | else-is_last w ↦ rw (← c.is_last.ensures, w.if-is_last.false)
     ] in
     rw (not-whole, ← c.in_q.ensures, c.if-in_q.false, ← c.spent.ensures, c.if-spent.false)
