@@ -10,7 +10,8 @@ use lib.Dec.{eqb, ltb, ltb→lt}
 use lib.ListN.{length, get_or, drop}
 use lib.Seq.{sets, sets-eq}
 use borrow.Author.Tests.{lt-ltb, le-ltb}
-use Rattle.pattern.proofs.Basics.{both_l}
+use denote.Enum.Declared.{tag_of}
+use Rattle.pattern.proofs.Basics.{both_l, zero_one}
 use Rattle.layout.specs.Layout.{Sheet, WellFormedSheet}
 use Rattle.tables.specs.Cells.{head_at}
 use Rattle.book.specs.declared.Book.{Book}
@@ -24,6 +25,7 @@ use Rattle.rule_player.specs.Choice.{chosen_in}
 use Rattle.rule_player.specs.Said.{round_said, has_rule, chosen_said}
 use Rattle.rule_player.specs.Playing.{answer_of, records_of, writing, playing_of, chosen_of, Plays}
 use Rattle.rule_player.specs.Passing.{PassesBy, Passes}
+use Rattle.rule_player.specs.contracts.Length.{the_type}
 use Rattle.rule_player.proofs.Passing.{records-length}
 use Rattle.rule_player.proofs.Own.{names-own}
 
@@ -81,3 +83,9 @@ module _ (table : List ℕ) (r time : ℕ) (choice before : List ℕ) where
         second : (m : Length) → PassesBy names time true before m after → 5 * length names ≤ length before → after ≡ sets before 0 (records_of time names)
         second (Fits k) t room = t.2
         second Longer t room = absurd (omega (arith, t.0, room))
+
+-- ---- a length by the number of its variant
+
+pub is-longer : (l : Length) → tag_of the_type l ≡ 1 → l ≡ Longer
+is-longer (Fits n) e = absurd (zero_one e)
+is-longer Longer e = refl
