@@ -6,6 +6,8 @@ pub mod number;
 pub mod play;
 pub mod tally;
 
+ghost use Rattle.std.specs.Prelude.{◌≡◌, OnErr};
+
 use number::{four, two, wide};
 use std::io;
 use std::io::Read;
@@ -84,7 +86,7 @@ fn print_difference(
     print(rt, b"\n")
 }
 
-// Counts the case as due and, where it agrees, as met.
+// Counts the case as due and, where it agrees, as met. A write that fails leaves it counted as due alone.
 pub fn compare(
     rt: &impl Print,
     number: u32,
@@ -92,7 +94,9 @@ pub fn compare(
     end: &[u8; END],
     dues: &mut [u32; SLOTS],
     mets: &mut [u32; SLOTS],
-) -> io::Result<()> {
+) -> io::Result<()>
+    ensures { OnErr result (mets.new ≡ mets.old) }
+{
     let due = due_answer(end);
     tally::count(dues, due[0], due[1], end[16]);
     if *out == due {

@@ -1,4 +1,6 @@
 // The plays of plays.bin: what is due for each, held to what was said and written.
+ghost use Rattle.std.specs.Prelude.{◌≡◌, OnErr};
+
 use crate::number::{eight, four};
 use crate::tally::SLOTS;
 use crate::{print, print_wide, tally};
@@ -59,7 +61,7 @@ fn print_difference(
     print(rt, b"\n")
 }
 
-// Counts the play as due and, where the answer agrees and the output is alike to its last byte, as met.
+// Counts the play as due and, where the answer agrees and the output is alike to its last byte, as met. A write that fails leaves it counted as due alone.
 pub fn compare(
     rt: &impl Print,
     sheet: u32,
@@ -69,7 +71,9 @@ pub fn compare(
     numbers: &[u8; NUMBERS],
     dues: &mut [u32; SLOTS],
     mets: &mut [u32; SLOTS],
-) -> io::Result<()> {
+) -> io::Result<()>
+    ensures { OnErr result (mets.new ≡ mets.old) }
+{
     let due = due_answer(numbers);
     tally::bump(dues, slot(due));
     if (said == due) & alike {
