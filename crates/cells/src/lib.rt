@@ -2,19 +2,8 @@
 #![tactic(auto)]
 
 ghost use Rattle.std.specs.Prelude.{◌≡◌, ◌<◌};
-ghost use Rattle.bits.specs.Bits.{flag};
 ghost use Rattle.tables.specs.Words.{round_in};
 ghost use Rattle.cells.specs.Making.{before_from, order_from, fragment_from, clock_from, shared_cell, cell_with};
-
-// A field of one bit.
-fn flag(yes: bool) -> u64
-    ensures { (result ≡ flag yes) × (result < 2) }
-{
-    if yes {
-        return 1;
-    }
-    0
-}
 
 // ---- what the order says of fragment f
 
@@ -23,7 +12,7 @@ fn preceding(head: u64, f: usize) -> usize
     requires { f < round_in head }
     ensures { (result ≡ before_from head f) × (result < 16) }
 {
-    let all = tables::fragments_in_round(head) as usize;
+    let all = usize::from(tables::fragments_in_round(head));
     if f == 0 {
         return all - 1;
     }
@@ -36,10 +25,10 @@ fn order(head: u64, f: usize) -> u64
     ensures { (result ≡ order_from head f) × (result < 1024) }
 {
     let before = preceding(head, f) as u64;
-    let all = tables::fragments_in_round(head) as usize;
-    let p = tables::fragments_in_p(head) as usize;
-    let last = flag(all <= f + 1);
-    let frees = flag((tables::kind(head) == 0) & (p <= f));
+    let all = usize::from(tables::fragments_in_round(head));
+    let p = usize::from(tables::fragments_in_p(head));
+    let last = u64::from(all <= f + 1);
+    let frees = u64::from((tables::kind(head) == 0) & (p <= f));
     (f as u64) + 16 * before + 256 * last + 512 * frees
 }
 
@@ -49,8 +38,8 @@ fn order(head: u64, f: usize) -> u64
 fn fragment(word: u16) -> u64
     ensures { (result ≡ fragment_from word) × (result < 256) }
 {
-    let less = ((tables::ranges_in(word) + 7) % 8) as u64;
-    let join = (tables::join(word) % 4) as u64;
+    let less = u64::from((tables::ranges_in(word) + 7) % 8);
+    let join = u64::from(tables::join(word) % 4);
     8 * less + 64 * join
 }
 
@@ -62,11 +51,11 @@ fn clock(head: u64, f: usize) -> u64
     ensures { (result ≡ clock_from head f) × (result < 8) }
 {
     let timed = tables::kind(head) == 2;
-    let p = tables::fragments_in_p(head) as usize;
+    let p = usize::from(tables::fragments_in_p(head));
     if p <= f {
-        return 2 * flag(timed);
+        return 2 * u64::from(timed);
     }
-    1 + 4 * flag(timed & (p <= f + 1))
+    1 + 4 * u64::from(timed & (p <= f + 1))
 }
 
 // ---- the cell
@@ -84,7 +73,7 @@ pub fn cell_of(shared: u64, word: u64, i: usize) -> u64
     requires { (shared < 4194304) × (i < 8) }
     ensures { result ≡ cell_with shared word i }
 {
-    let low = tables::low(word) as u64;
-    let high = tables::high(word) as u64;
+    let low = u64::from(tables::low(word));
+    let high = u64::from(tables::high(word));
     shared + 1024 * (i as u64) + 4294967296 * (low + 65536 * high)
 }

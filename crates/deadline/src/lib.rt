@@ -9,7 +9,7 @@ ghost use Rattle.deadline.specs.Deadlines.{overdue_of, late_of, end_of};
 pub fn overdue(limit: u32, end: u32, time: u32) -> bool
     ensures { result ≡ overdue_of limit end time }
 {
-    end as u64 + (limit as u64) < time as u64
+    u64::from(end) + u64::from(limit) < u64::from(time)
 }
 
 // An event on the cell's name is one of Q after the deadline.
@@ -17,10 +17,7 @@ pub fn overdue(limit: u32, end: u32, time: u32) -> bool
 pub fn late(cell: u64, limit: u32, end: u32, time: u32) -> bool
     ensures { result ≡ late_of cell limit end time }
 {
-    if tables::in_q(cell) {
-        return overdue(limit, end, time);
-    }
-    false
+    tables::in_q(cell) && overdue(limit, end, time)
 }
 
 // The end of P after an event on the cell's name.
@@ -28,8 +25,5 @@ pub fn late(cell: u64, limit: u32, end: u32, time: u32) -> bool
 pub fn ended(cell: u64, end: u32, time: u32) -> u32
     ensures { result ≡ end_of cell end time }
 {
-    if tables::in_p(cell) {
-        return time;
-    }
-    end
+    if tables::in_p(cell) { time } else { end }
 }

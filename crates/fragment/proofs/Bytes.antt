@@ -11,15 +11,12 @@ use lib.Dec.{eqb}
 use lib.Pow.{pow-add, shl_exact}
 use lib.ListN.{length, get_or, set, length-set}
 use lib.Seq.{get_or-set_same, get_or-set_other}
-use mir.Syntax.{w8}
-use mir.Val.{Val}
-use denote.Shadow.{shadow}
-use denote.Laws.{Is}
-use denote.Plain.{UInt}
-use denote.Array.{Array, each}
+use Rattle.std.specs.Int.{w64, to_le_bytes, from_le_bytes}
+use Rattle.std.specs.Int.{bytes_low_first}
+use Rattle.std.proofs.lemmas.Nat.{le_bytes_8}
 use borrow.Author.Tests.{eqb-true, eqb-false}
 use Rattle.recogniser.specs.Counts.{saturated}
-use Rattle.fragment.specs.Fragments.{digits, word_of}
+use Rattle.fragment.specs.Fragments.{digits}
 
 -- lists of one length that agree at each place are equal
 pub same-list : {A : Type 0} (d : A) (xs ys : List A) → length xs ≡ length ys → ((k : ℕ) → k < length xs → get_or xs k d ≡ get_or ys k d) → xs ≡ ys
@@ -62,43 +59,24 @@ eight-set {A} x i new d a₀ a₁ a₂ a₃ a₄ a₅ a₆ a₇ l h₀ h₁ h₂
 -- ---- bytes
 
 abbrev pub AreBytes : List ℕ → Type 0
-AreBytes x = (k : ℕ) → k < length x → get_or x k 0 < 256
-
-each-byte : (x : List ℕ) (us : List Val) → shadow (each ℕ (UInt w8).own_val x us) → AreBytes x
-each-byte [] us h k g = absurd (not-suc-le-zero g)
-each-byte (a ∷ x) [] h k g = absurd h
-each-byte (a ∷ x) (u ∷ us) h zero g = h.0.1
-each-byte (a ∷ x) (u ∷ us) h (suc k) g = each-byte x us h.1 k (omega (arith, g))
-
--- what a function is told of an array of bytes that it is given
-pub array-bytes : (n : ℕ) (x : List ℕ) (vs : List Val) → Is (Array (UInt w8) n) x vs → AreBytes x
-array-bytes n x vs h = each-byte x h.0 h.1.1
+AreBytes x = (k : ℕ) → get_or x k 0 < 256
 
 tail-bytes : (a : ℕ) (x : List ℕ) → AreBytes (a ∷ x) → AreBytes x
-tail-bytes a x h k g = h (suc k) (omega (arith, g))
+tail-bytes a x h k = h (suc k)
 
 pub set-bytes : (x : List ℕ) (i s : ℕ) → AreBytes x → s < 256 → AreBytes (set x i s)
-set-bytes x i s h b k g = look (eqb i k) (set_at x i k s 0 inside)
-  where
-    inside : k < length x
-    inside = subst (λ (n : ℕ). k < n) (length-set x i s) g
-
-    look : (c : Bool) → get_or (set x i s) k 0 ≡ cond c s (get_or x k 0) → get_or (set x i s) k 0 < 256
-    look true e = omega (arith, e, b)
-    look false e = omega (arith, e, h k inside)
+set-bytes [] i s h b k = h k
+set-bytes (a ∷ x) zero s h b zero = b
+set-bytes (a ∷ x) zero s h b (suc k) = h (suc k)
+set-bytes (a ∷ x) (suc i) s h b zero = h 0
+set-bytes (a ∷ x) (suc i) s h b (suc k) = set-bytes x i s (tail-bytes a x h) b k
 
 -- ---- a list of bytes and its word
 
--- the bytes of a word of bytes
-pub bytes_back : (n : ℕ) (x : List ℕ) → length x ≡ n → AreBytes x → digits n (word_of x) ≡ x
-bytes_back zero [] l h = refl
-bytes_back zero (a ∷ x) l h = absurd (omega (arith, l))
-bytes_back (suc n) [] l h = absurd (omega (arith, l))
-bytes_back (suc n) (a ∷ x) l h =
-    let b : a < 256 = h 0 (omega arith) in
-    let low : (a + 256 * word_of x) % 256 ≡ a = omega (arith, b) in
-    let high : (a + 256 * word_of x) / 256 ≡ word_of x = omega (arith, b) in
-    ap₂ (λ (d w : ℕ). d ∷ digits n w) low high ∙ ap (λ (t : List ℕ). a ∷ t) (bytes_back n x (omega (arith, l)) (tail-bytes a x h))
+-- the word of some bytes
+abbrev pub word_of : List ℕ → ℕ
+word_of [] = 0
+word_of (x ∷ xs) = x + 256 * word_of xs
 
 pub word_below : (n : ℕ) (x : List ℕ) → length x ≡ n → AreBytes x → word_of x < 256 ^ n
 word_below zero [] l h = omega arith
@@ -107,21 +85,33 @@ word_below (suc n) [] l h = absurd (omega (arith, l))
 word_below (suc n) (a ∷ x) l h =
     let e : suc n ≡ 1 + n = omega arith in
     let p : 256 ^ suc n ≡ 256 * 256 ^ n = ap (λ (m : ℕ). 256 ^ m) e ∙ pow-add 256 1 n in
-    let b : a < 256 = h 0 (omega arith) in
+    let b : a < 256 = h 0 in
     omega (arith, p, b, word_below n x (omega (arith, l)) (tail-bytes a x h))
 
--- the sum of eight bytes at their places
-pub packs : (x : List ℕ) (a₀ a₁ a₂ a₃ a₄ a₅ a₆ a₇ : ℕ) → length x ≡ 8
-    → a₀ ≡ get_or x 0 0 → a₁ ≡ get_or x 1 0 → a₂ ≡ get_or x 2 0 → a₃ ≡ get_or x 3 0 → a₄ ≡ get_or x 4 0 → a₅ ≡ get_or x 5 0 → a₆ ≡ get_or x 6 0 → a₇ ≡ get_or x 7 0
-    → a₀ + 256 * (a₁ + 256 * (a₂ + 256 * (a₃ + 256 * (a₄ + 256 * (a₅ + 256 * (a₆ + 256 * a₇)))))) ≡ word_of x
-packs x a₀ a₁ a₂ a₃ a₄ a₅ a₆ a₇ l h₀ h₁ h₂ h₃ h₄ h₅ h₆ h₇ =
-    sum ∙ ap word_of (same-list 0 made x (sym l) (below-eight (λ (k : ℕ). get_or made k 0 ≡ get_or x k 0) h₀ h₁ h₂ h₃ h₄ h₅ h₆ h₇))
+-- std's word for the word of eight bytes
+pub from-le : (x : List ℕ) → length x ≡ 8 → from_le_bytes w64 x ≡ word_of x
+from-le x l = sum (get_or x 0 0) (get_or x 1 0) (get_or x 2 0) (get_or x 3 0) (get_or x 4 0) (get_or x 5 0) (get_or x 6 0) (get_or x 7 0) ∙ ap word_of same
   where
     made : List ℕ
-    made = a₀ ∷ a₁ ∷ a₂ ∷ a₃ ∷ a₄ ∷ a₅ ∷ a₆ ∷ a₇ ∷ []
+    made = get_or x 0 0 ∷ get_or x 1 0 ∷ get_or x 2 0 ∷ get_or x 3 0 ∷ get_or x 4 0 ∷ get_or x 5 0 ∷ get_or x 6 0 ∷ get_or x 7 0 ∷ []
 
-    sum : a₀ + 256 * (a₁ + 256 * (a₂ + 256 * (a₃ + 256 * (a₄ + 256 * (a₅ + 256 * (a₆ + 256 * a₇)))))) ≡ word_of made
-    sum = omega arith
+    same : made ≡ x
+    same = same-list 0 made x (sym l) (below-eight (λ (k : ℕ). get_or made k 0 ≡ get_or x k 0) refl refl refl refl refl refl refl refl)
+
+    sum : (a b c d e f g h : ℕ) → from_le_bytes w64 (a ∷ b ∷ c ∷ d ∷ e ∷ f ∷ g ∷ h ∷ []) ≡ word_of (a ∷ b ∷ c ∷ d ∷ e ∷ f ∷ g ∷ h ∷ [])
+    sum a b c d e f g h = omega arith
+
+-- std's words for the bytes of a word: byte i + 1 is byte i of the word without its lowest byte
+low-shifted : (i n w : ℕ) → bytes_low_first (suc i) n w ≡ bytes_low_first i n (w / 256)
+low-shifted i zero w = refl
+low-shifted zero (suc n) w = ap₂ ◌∷◌ refl (low-shifted 1 n w)
+low-shifted (suc i) (suc n) w =
+    let e : 256 ^ suc (suc i) ≡ 256 * 256 ^ suc i = omega arith in
+    ap₂ (λ (d : ℕ) (ds : List ℕ). d % 256 ∷ ds) (ap (w /◌) e ∙ sym (div-div-eq-div-mul w 256 (256 ^ suc i))) (low-shifted (suc (suc i)) n w)
+
+pub low-digits : (n w : ℕ) → bytes_low_first 0 n w ≡ digits n w
+low-digits zero w = refl
+low-digits (suc n) w = ap (λ (ds : List ℕ). w % 256 ∷ ds) (low-shifted 0 n w ∙ low-digits n (w / 256))
 
 -- ---- one byte of a word
 
@@ -139,10 +129,10 @@ drop-byte a w i b =
 pub byte_at : (x : List ℕ) (i : ℕ) → AreBytes x → i < length x → word_of x / 2 ^ (8 * i) % 256 ≡ get_or x i 0
 byte_at [] i h g = absurd (not-suc-le-zero g)
 byte_at (a ∷ x) zero h g =
-    let b : a < 256 = h 0 g in
+    let b : a < 256 = h 0 in
     let low : (a + 256 * word_of x) % 256 ≡ a = omega (arith, b) in
     ap (λ (n : ℕ). n % 256) (div-one (a + 256 * word_of x)) ∙ low
-byte_at (a ∷ x) (suc i) h g = ap (λ (n : ℕ). n % 256) (drop-byte a (word_of x) i (h 0 (omega arith))) ∙ byte_at x i (tail-bytes a x h) (omega (arith, g))
+byte_at (a ∷ x) (suc i) h g = ap (λ (n : ℕ). n % 256) (drop-byte a (word_of x) i (h 0)) ∙ byte_at x i (tail-bytes a x h) (omega (arith, g))
 
 -- the new byte in the place of the old one
 pub word_set : (x : List ℕ) (i s : ℕ) → i < length x → word_of (set x i s) + get_or x i 0 * 2 ^ (8 * i) ≡ word_of x + s * 2 ^ (8 * i)
@@ -158,22 +148,25 @@ old_byte w i = (w / 2 ^ (8 * i) % 256 * 2 ^ (8 * i)) % 2 ^ 64
 abbrev pub replace_byte : ℕ → ℕ → ℕ → ℕ
 replace_byte w i s = w - old_byte w i + (s * 2 ^ (8 * i)) % 2 ^ 64
 
-module _ (x : List ℕ) (i s w : ℕ) (eight : length x ≡ 8) (bytes : AreBytes x) (within : i < 8) (small : s < 256) (packed : w ≡ word_of x) where
+module _ (x : List ℕ) (i s w : ℕ) (eight : length x ≡ 8) (bytes : AreBytes x) (within : i < 8) (small : s < 256) (packed : w ≡ from_le_bytes w64 x) where
   inside : i < length x
   inside = omega (arith, eight, within)
+
+  word : w ≡ word_of x
+  word = packed ∙ from-le x eight
 
   -- a byte at place i fits the word
   shifted : (b : ℕ) → b < 256 → (b * 2 ^ (8 * i)) % 2 ^ 64 ≡ b * 2 ^ (8 * i)
   shifted b h = shl_exact {a = b} 8 (8 * i) 64 h (omega (arith, within))
 
   old-byte : old_byte w i ≡ get_or x i 0 * 2 ^ (8 * i)
-  old-byte = rw packed (ap (λ (n : ℕ). (n * 2 ^ (8 * i)) % 2 ^ 64) (byte_at x i bytes inside) ∙ shifted (get_or x i 0) (bytes i inside))
+  old-byte = rw word (ap (λ (n : ℕ). (n * 2 ^ (8 * i)) % 2 ^ 64) (byte_at x i bytes inside) ∙ shifted (get_or x i 0) (bytes i))
 
   pub old_below : old_byte w i ≤ w
-  old_below = omega (arith, packed, old-byte, word_set x i 0 inside)
+  old_below = omega (arith, word, old-byte, word_set x i 0 inside)
 
   replaced : replace_byte w i s ≡ word_of (set x i s)
-  replaced = omega (arith, packed, old-byte, old_below, shifted s small, word_set x i s inside)
+  replaced = omega (arith, word, old-byte, old_below, shifted s small, word_set x i s inside)
 
   set-eight : length (set x i s) ≡ 8
   set-eight = length-set x i s ∙ eight
@@ -181,8 +174,8 @@ module _ (x : List ℕ) (i s w : ℕ) (eight : length x ≡ 8) (bytes : AreBytes
   pub replaced-below : replace_byte w i s < 2 ^ 64
   replaced-below = subst (λ (n : ℕ). n < 2 ^ 64) (sym replaced) (word_below 8 (set x i s) set-eight (set-bytes x i s bytes small))
 
-  pub replaced-bytes : digits 8 (replace_byte w i s) ≡ set x i s
-  replaced-bytes = ap (digits 8) replaced ∙ bytes_back 8 (set x i s) set-eight (set-bytes x i s bytes small)
+  pub replaced-bytes : to_le_bytes w64 (replace_byte w i s) ≡ set x i s
+  replaced-bytes = le_bytes_8 (set x i s) _ set-eight (set-bytes x i s bytes small) (replaced ∙ sym (from-le (set x i s) set-eight))
 
 -- eight choices, of which the one that is made raises a count
 pub eight-raised : (x : List ℕ) (i a₀ a₁ a₂ a₃ a₄ a₅ a₆ a₇ : ℕ) → length x ≡ 8

@@ -1,20 +1,15 @@
 -- The eight states and the eight counts of a fragment before its first event, and the set of its ranges, by a cell. No promise of an exported call cites it.
 -- Assumes nothing.
-use Rattle.std.specs.Prelude.{List, [], ◌∷◌, ℕ, zero, suc, ◌+◌, ◌-◌, ◌*◌, ◌/◌, ◌%◌, ◌^◌, replicate}
+use Rattle.std.specs.Prelude.{List, [], ◌∷◌, ℕ, zero, suc, ◌-◌, ◌*◌, ◌/◌, ◌%◌, ◌^◌, replicate}
 use Rattle.tables.specs.Cells.{less_in}
 
 abbrev pub zeros : List ℕ
 zeros = replicate 8 0
 
--- the n bytes of a word, the lowest first;
+-- the n bytes of a word, the lowest first
 abbrev pub digits : ℕ → ℕ → List ℕ
 digits zero w = []
 digits (suc n) w = w % 256 ∷ digits n (w / 256)
-
--- the word of some bytes
-abbrev pub word_of : List ℕ → ℕ
-word_of [] = 0
-word_of (x ∷ xs) = x + 256 * word_of xs
 
 -- each range of the cell's fragment waits (2), and the states past the last are idle (0)
 unfoldable pub waiting_of : ℕ → List ℕ

@@ -1,7 +1,7 @@
 -- Sets of rules (document 01, "Observing"): "a 16-bit mask of the rules". Rules are numbered 0 to 15, and rule r is in a mask if its binary digit r is 1, as a name is in
 -- a set of names (crate `names`). What each function promises is a record that speaks of every number; one of 16 or more is in no mask. A set of a fragment's ranges, "1 to 8",
 -- is a word of eight digits in the same way. Assumes nothing.
-use Rattle.std.specs.Prelude.{◌≡◌, Bool, true, false, cond, not, ◌&&◌, ◌||◌, ℕ, zero, suc, ◌+◌, ◌^◌, ◌<◌, eqb, ltb}
+use Rattle.std.specs.Prelude.{◌≡◌, Bool, true, false, cond, not, ◌&&◌, ◌||◌, ℕ, zero, suc, ◌+◌, ◌^◌, ◌<◌, eqb, ltb, Option, MatchOption}
 use Rattle.names.specs.Names.{member}
 
 -- a rule's number: "Rules are numbered from 0", and a sheet has at most 16
@@ -39,6 +39,10 @@ pub record Less (mask r left : ℕ) : Type 0 where
 -- the mask without its lowest rule, if it has any
 abbrev pub Rest : ℕ → ℕ → Type 0
 Rest mask left = (r : ℕ) → 0 < mask → Lowest mask r → Less mask r left
+
+-- one turn over the rules of a mask, from the lowest up: none comes of an empty mask, and of any other its lowest, without which the mask is left
+abbrev pub Turn : ℕ → Option ℕ → ℕ → Type 0
+Turn mask r left = MatchOption r ((mask ≡ 0) × (left ≡ 0)) (λ x. (0 < mask) × Lowest mask x × Less mask x left)
 
 -- the set of ranges in which range i is or is not, as `on` says, and every other is as it was
 pub record Put (set i : ℕ) (on : Bool) (made : ℕ) : Type 0 where

@@ -2,41 +2,36 @@
 // `next_state` is what a caller asks. Its inside is a formula (document 02, change 4): no table is looked up, and no branch is taken where the compiler selects, as it does on x86-64.
 #![tactic(auto)]
 
-ghost use Rattle.std.specs.Prelude.{◌≡◌, cond, ◌||◌, ◌+◌, ◌<◌, min, leb, ltb, eqb};
-ghost use Rattle.bits.specs.Bits.{flag};
+ghost use Rattle.std.specs.Prelude.{◌≡◌, cond, ◌||◌, ◌+◌, leb, ltb, eqb};
 ghost use Rattle.pattern.specs.Meaning.{may_be_left_out, shuffled};
 ghost use Rattle.recogniser.specs.Numbers.{join_of, next_state};
 ghost use Rattle.recogniser.specs.Formula.{set_of, takers_of, leads_to, formula};
 ghost use Rattle.recogniser.specs.Counts.{saturated};
 
-// "0 idle, 1 fragment not begun, 2 waiting while a sibling has begun, 3 counting, 4 done, 5 error".
-const IDLE: u8 = 0;
+// "0 idle, 1 fragment not begun, 2 waiting while a sibling has begun, 3 counting, 4 done, 5 error". Numbers, and not an enum: `next_state`, `is_shuffled` and `may_be_left_out` take any number.
+pub const IDLE: u8 = 0;
 
-const UNBEGUN: u8 = 1;
+pub const UNBEGUN: u8 = 1;
 
-const WAITING: u8 = 2;
+pub const WAITING: u8 = 2;
 
-const COUNTING: u8 = 3;
+pub const COUNTING: u8 = 3;
 
-const DONE: u8 = 4;
+pub const DONE: u8 = 4;
 
-const ERROR: u8 = 5;
+pub const ERROR: u8 = 5;
 
 // "own, sibling (same fragment), next (a name of the following fragment; ..) or other".
-const OWN: u8 = 0;
+pub const OWN: u8 = 0;
 
-const SIBLING: u8 = 1;
+pub const SIBLING: u8 = 1;
 
-const NEXT: u8 = 2;
+pub const NEXT: u8 = 2;
 
-const OTHER: u8 = 3;
+pub const OTHER: u8 = 3;
 
-// n, or most where n is above it.
-fn at_most(n: u8, most: u8) -> u8
-    ensures { result ≡ min n most }
-{
-    if n < most { n } else { most }
-}
+// The join of a fragment whose blocks stand in a row: "0 all".
+pub const ALL: u8 = 0;
 
 // One number where a condition holds, another where it does not.
 fn select(holds: bool, yes: u8, no: u8) -> u8
@@ -77,18 +72,11 @@ fn has_room(count: u16, v: u16) -> bool
 
 // ---- the formula: which states take an event of a class without error, and where it leads them
 
-// 1 for yes.
-fn flag(yes: bool) -> u8
-    ensures { (result ≡ flag yes) × (result < 2) }
-{
-    if yes { 1 } else { 0 }
-}
-
 // A set of states, with bit s for state s. "0 and 5 stay": neither is in any.
 fn set_of(unbegun: bool, waiting: bool, counting: bool, done: bool) -> u8
     ensures { result ≡ set_of unbegun waiting counting done }
 {
-    2 * flag(unbegun) + 4 * flag(waiting) + 8 * flag(counting) + 16 * flag(done)
+    2 * u8::from(unbegun) + 4 * u8::from(waiting) + 8 * u8::from(counting) + 16 * u8::from(done)
 }
 
 // The states that take an event of a class. 1 takes *own* and *sibling*; 2 these and, where it may be left out, *next*; 3 *own* where it has room, *sibling* where blocks are shuffled or it has
@@ -118,6 +106,7 @@ fn leads_to(state: u8, class: u8, shuffled: bool) -> u8
 }
 
 // Idle stays, and a state that does not take the event is an error.
+#[tactic(auto, unfolding(crate::specs::Formula::formula))]
 fn formula(room: bool, enough: bool, optional: bool, shuffled: bool, state: u8, class: u8) -> u8
     ensures { result ≡ formula room enough optional shuffled state class }
 {
@@ -135,23 +124,18 @@ pub fn next_state(state: u8, class: u8, join: u8, count: u16, u: u16, v: u16) ->
         has_enough(count, u),
         may_be_left_out(join),
         is_shuffled(join),
-        at_most(state, ERROR),
-        at_most(class, OTHER),
+        state.min(ERROR),
+        class.min(OTHER),
     )
 }
 
 // ---- the count
 
-// No u and no v of a sheet is above it, and no number of sixteen bits.
-const MOST_COUNT: u16 = 65535;
-
-// What is stored of a count, so many events later. "Counts may stop rising once u is reached": this one stops where it has reached every u that there is, so that it asks for no bound.
-// In this form the compiler has one instruction for the sums of eight counts.
+// What is stored of a count, so many events later. "Counts may stop rising once u is reached": this one stops at 65,535, which no u and no v of a sheet is above, so that it asks for no bound.
+// The compiler has one instruction for the sums of eight counts.
+#[tactic(auto, unfolding(crate::specs::Counts::saturated))]
 pub fn saturating_sum(count: u16, more: u16) -> u16
     ensures { result ≡ saturated (count + more) }
 {
-    if MOST_COUNT - more < count {
-        return MOST_COUNT;
-    }
-    count + more
+    count.saturating_add(more)
 }

@@ -3,7 +3,7 @@
 // The first state also says whether the rule is at rest: 1, nothing has come; 0, its trigger of kind 0 has released it.
 #![tactic(auto)]
 
-#[derive(Clone, Copy)]
+#[derive(Clone, Copy, Default)]
 pub struct RuleState {
     pub fragment: u8,
     // The number of the range whose event came last: in a fragment that is not shuffled, the one that counts.

@@ -5,32 +5,14 @@
 #![tactic(auto)]
 
 ghost use Rattle.std.specs.Prelude.{◌≡◌, ◌%◌};
-ghost use Rattle.step.specs.Steps.{broken_of, moved_by, errs_of, spent_of, standing_of, taken_of, opened_of, closed_of, is_at, ready_as, inside_of, follows_of, outside_of, seen_of, freed_of, cell_in, act_of};
+ghost use Rattle.step.specs.Steps.{broken_of, moved_by, errs_of, spent_of, standing_of, taken_of, opened_of, closed_of, is_at, inside_of, follows_of, outside_of, seen_of, freed_of, cell_in, act_of};
 
+use recogniser::{ALL, COUNTING, ERROR, IDLE, NEXT, OWN, SIBLING, UNBEGUN, WAITING};
 use rule_state::RuleState;
 use tables::Table;
 
-// States of a range, classes of an event and the join of blocks in a row, by document 01's numbers.
-const IDLE: u8 = 0;
-
-const UNBEGUN: u8 = 1;
-
-const WAITING: u8 = 2;
-
-const COUNTING: u8 = 3;
-
-const ERROR: u8 = 5;
-
-const OWN: u8 = 0;
-
-const SIBLING: u8 = 1;
-
-const NEXT: u8 = 2;
-
-const ALL: u8 = 0;
-
 // How a rule stands: whole, open, open with a deadline that runs, or broken.
-#[derive(Drop)]
+#[derive(Clone, Copy, PartialEq, Eq)]
 pub enum Standing {
     Whole,
     Open,
@@ -39,7 +21,7 @@ pub enum Standing {
 }
 
 // A rule's state after an event, and how the rule stands.
-#[derive(Drop)]
+#[derive(Clone, Copy)]
 pub struct Stepped {
     pub state: RuleState,
     pub standing: Standing,
@@ -81,34 +63,25 @@ fn errs(cell: u64, class: u8, count: u16) -> bool
 // ---- after an event that is no error
 
 // A P that a deadline follows is complete, and no range of its last fragment can take one more: any further event would have to be of Q.
+#[tactic(auto, unfolding(crate::specs::Steps::spent_of))]
 fn spent(cell: u64, lacking: u8, full: u8) -> bool
     ensures { result ≡ spent_of cell lacking full }
 {
-    if tables::ends_p(cell) {
-        if lacking == 0 {
-            return full == fragment::ranges(cell);
-        }
-        return false;
-    }
-    false
+    tables::ends_p(cell) && lacking == 0 && full == fragment::ranges(cell)
 }
 
 // How the rule stands: whole at the end of a round; the deadline runs in Q up to that, and from a P that is spent.
+#[tactic(auto, unfolding(crate::specs::Steps::standing_of))]
 fn stands(cell: u64, lacking: u8, full: u8) -> Standing
     ensures { result ≡ standing_of cell lacking full }
 {
-    if tables::is_last(cell) {
-        if lacking == 0 {
-            return Standing::Whole;
-        }
+    if tables::is_last(cell) && lacking == 0 {
+        Standing::Whole
+    } else if tables::in_q(cell) || spent(cell, lacking, full) {
+        Standing::Due
+    } else {
+        Standing::Open
     }
-    if tables::in_q(cell) {
-        return Standing::Due;
-    }
-    if spent(cell, lacking, full) {
-        return Standing::Due;
-    }
-    Standing::Open
 }
 
 // The cell's range takes an event that is no error to it. It waited or counted, and counts now, one more than before; its state and its bit of each set are the table's moves.
@@ -116,160 +89,126 @@ fn takes(cell: u64, st: RuleState, time: u32) -> Stepped
     ensures { result ≡ taken_of cell st time }
 {
     let i = tables::index_in(cell);
-    let was = st.counts;
-    let count = recogniser::saturating_sum(was[i as usize], 1);
-    let counts = fragment::raised(was, i);
-    let before = st.states;
-    let states = fragment::with_state(before, i, moved(cell, WAITING, OWN, count));
+    let count = recogniser::saturating_sum(st.counts[usize::from(i)], 1);
     let lacking = masks::put(st.lacking, i, errs(cell, NEXT, count));
     let full = masks::put(st.full, i, errs(cell, OWN, count));
-    let k = stands(cell, lacking, full);
     Stepped {
         state: RuleState {
             fragment: tables::fragment_in(cell),
             current: i,
-            states: states,
-            counts: counts,
-            lacking: lacking,
-            full: full,
+            states: fragment::with_state(st.states, i, moved(cell, WAITING, OWN, count)),
+            counts: fragment::raised(st.counts, i),
+            lacking,
+            full,
             end: deadline::ended(cell, st.end, time),
         },
-        standing: k,
+        standing: stands(cell, lacking, full),
     }
 }
 
 // ---- an event
 
 // The cell's fragment before its first event: each of its ranges waits, and counts begin again. Of the state that it leaves, the end of P is kept.
+#[tactic(auto, unfolding(crate::specs::Steps::opened_of))]
 fn opened(cell: u64, st: RuleState) -> RuleState
     ensures { result ≡ opened_of cell st }
 {
-    let mut lacking = 0;
-    if moved(cell, WAITING, NEXT, 0) == ERROR {
-        lacking = fragment::ranges(cell);
-    }
-    let states = fragment::waiting(cell);
-    let counts = [0u16; 8];
+    let lacking = if moved(cell, WAITING, NEXT, 0) == ERROR {
+        fragment::ranges(cell)
+    } else {
+        0
+    };
     RuleState {
         fragment: tables::fragment_in(cell),
-        current: 0,
-        states: states,
-        counts: counts,
-        lacking: lacking,
-        full: 0,
+        states: fragment::waiting(cell),
+        lacking,
         end: st.end,
+        ..RuleState::default()
     }
 }
 
 // The range that counted is done: a sibling's event closes its block. It has enough, as its bit of `lacking` said, so that any number that is enough stands for its count.
+#[tactic(auto, unfolding(crate::specs::Steps::closed_of))]
 fn closed(st: RuleState) -> RuleState
     ensures { result ≡ closed_of st }
 {
     let j = st.current % 8;
     let done = recogniser::next_state(COUNTING, SIBLING, ALL, 1, 1, 1);
-    let before = st.states;
-    let states = fragment::with_state(before, j, done);
-    let counts = st.counts;
+    let errs = recogniser::next_state(done, OWN, ALL, 1, 1, 1) == ERROR;
     RuleState {
-        fragment: st.fragment,
-        current: st.current,
-        states: states,
-        counts: counts,
-        lacking: st.lacking,
-        full: masks::put(
-            st.full,
-            j,
-            recogniser::next_state(done, OWN, ALL, 1, 1, 1) == ERROR,
-        ),
-        end: st.end,
+        states: fragment::with_state(st.states, j, done),
+        full: masks::put(st.full, j, errs),
+        ..st
     }
 }
 
 // The rule stands at the cell's fragment, which has begun.
+#[tactic(auto, unfolding(crate::specs::Steps::is_at))]
 fn is_at(cell: u64, st: RuleState) -> bool
     ensures { result ≡ is_at cell st }
 {
-    let states = st.states;
-    if states[0] == UNBEGUN {
-        return false;
-    }
-    tables::fragment_in(cell) == st.fragment
+    st.states[0] != UNBEGUN && tables::fragment_in(cell) == st.fragment
 }
 
 // What an event is to the ranges of a rule: an error, the trigger that releases it, or one that its own range takes, in this state, where every other range stands as the event leaves it.
-#[derive(Drop)]
+#[derive(Clone, Copy)]
 enum Seen {
     Error,
     Releases,
-    Taken,
-}
-
-#[derive(Drop)]
-struct Ready {
-    pub seen: Seen,
-    pub state: RuleState,
-}
-
-fn ready_as(seen: Seen, st: RuleState) -> Ready
-    ensures { result ≡ ready_as seen st }
-{
-    Ready {
-        seen: seen,
-        state: st,
-    }
+    Taken(RuleState),
 }
 
 // An event of the fragment at which the rule stands. It is an error to its own range if that is full, and to the one that counts if that lacks and blocks stand in a row. An event of the
 // range that counts, and one of a shuffled fragment, leave every other range as it is.
-fn inside(cell: u64, st: RuleState) -> Ready
+#[tactic(auto, unfolding(crate::specs::Steps::inside_of))]
+fn inside(cell: u64, st: RuleState) -> Seen
     ensures { result ≡ inside_of cell st }
 {
     let i = tables::index_in(cell);
     if masks::holds(st.full, i) {
-        return ready_as(Seen::Error, st);
+        return Seen::Error;
     }
     if (i == st.current) | tables::is_shuffled(cell) {
-        return ready_as(Seen::Taken, st);
+        return Seen::Taken(st);
     }
     if masks::holds(st.lacking, st.current) {
-        return ready_as(Seen::Error, st);
+        return Seen::Error;
     }
-    ready_as(Seen::Taken, closed(st))
+    Seen::Taken(closed(st))
 }
 
 // An event that is not of it may only be the first of the fragment that follows: "An event seen as *next* by every range of the fragment, without error, is also the first event of the
 // following one."
+#[tactic(auto, unfolding(crate::specs::Steps::follows_of))]
 fn follows(cell: u64, st: RuleState) -> bool
     ensures { result ≡ follows_of cell st }
 {
-    let states = st.states;
-    if states[0] == UNBEGUN {
+    if st.states[0] == UNBEGUN {
         return tables::fragment_in(cell) == 0;
     }
-    if tables::before_in(cell) != st.fragment {
-        return false;
-    }
-    st.lacking == 0
+    tables::before_in(cell) == st.fragment && st.lacking == 0
 }
 
-fn outside(cell: u64, st: RuleState) -> Ready
+#[tactic(auto, unfolding(crate::specs::Steps::outside_of))]
+fn outside(cell: u64, st: RuleState) -> Seen
     ensures { result ≡ outside_of cell st }
 {
     if !follows(cell, st) {
-        return ready_as(Seen::Error, st);
+        return Seen::Error;
     }
     if tables::frees(cell) {
-        return ready_as(Seen::Releases, st);
+        return Seen::Releases;
     }
-    ready_as(Seen::Taken, opened(cell, st))
+    Seen::Taken(opened(cell, st))
 }
 
 // An event on one of the rule's names. Where nothing has come, no event is late that is no error: the rule's first fragment is of P.
-fn seen_at(cell: u64, limit: u32, st: RuleState, time: u32) -> Ready
+#[tactic(auto, unfolding(crate::specs::Steps::seen_of))]
+fn seen_at(cell: u64, limit: u32, st: RuleState, time: u32) -> Seen
     ensures { result ≡ seen_of cell limit st time }
 {
     if deadline::late(cell, limit, st.end, time) {
-        return ready_as(Seen::Error, st);
+        return Seen::Error;
     }
     if is_at(cell, st) {
         return inside(cell, st);
@@ -278,18 +217,16 @@ fn seen_at(cell: u64, limit: u32, st: RuleState, time: u32) -> Ready
 }
 
 // The trigger of kind 0 has come: the rule is released, and no later event is an error.
+#[tactic(auto, unfolding(crate::specs::Steps::freed_of))]
 fn freed(cell: u64, st: RuleState) -> Stepped
     ensures { result ≡ freed_of cell st }
 {
     Stepped {
         state: RuleState {
             fragment: tables::fragment_in(cell),
-            current: 0,
             states: [IDLE; 8],
-            counts: [0u16; 8],
-            lacking: 0,
-            full: 0,
             end: st.end,
+            ..RuleState::default()
         },
         standing: Standing::Whole,
     }
@@ -299,15 +236,15 @@ fn freed(cell: u64, st: RuleState) -> Stepped
 fn cell_at(table: &Table, rule: usize, name: u8) -> u64
     ensures { result ≡ cell_in table.now (rule % 16) name }
 {
-    table[tables::CELLS + tables::NAMES * (rule % 16) + (name % 64) as usize]
+    table[tables::CELLS + tables::NAMES * (rule % 16) + usize::from(name % 64)]
 }
 
 // An event on one of rule r's names. The first range of a fragment that has begun is neither idle nor not begun: it tells a rule at rest.
+#[tactic(auto, unfolding(crate::specs::Steps::act_of))]
 pub fn act(table: &Table, r: usize, st: RuleState, name: u8, time: u32) -> Stepped
     ensures { result ≡ act_of table.now (r % 16) st name time }
 {
-    let states = st.states;
-    if states[0] == IDLE {
+    if st.states[0] == IDLE {
         return Stepped {
             state: st,
             standing: Standing::Whole,
@@ -315,12 +252,9 @@ pub fn act(table: &Table, r: usize, st: RuleState, name: u8, time: u32) -> Stepp
     }
     let cell = cell_at(table, r, name);
     let limit = tables::time(table[tables::HEADS + r % 16]);
-    let x = seen_at(cell, limit, st, time);
-    let before = x.state;
-    let how = x.seen;
-    match how {
+    match seen_at(cell, limit, st, time) {
         Seen::Error => broken(st),
         Seen::Releases => freed(cell, st),
-        Seen::Taken => takes(cell, before, time),
+        Seen::Taken(before) => takes(cell, before, time),
     }
 }

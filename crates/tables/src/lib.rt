@@ -42,22 +42,16 @@ pub fn time(head: u64) -> u32
 pub fn few(n: usize) -> usize
     ensures { result ≡ cap 16 n }
 {
-    if 16 < n {
-        return 16;
-    }
-    n
+    n.min(16)
 }
 
 // Fragments in the round.
 pub fn fragments_in_round(head: u64) -> u8
     ensures { result ≡ round_in head }
 {
-    let p = fragments_in_p(head) as u64;
-    let last = fragments_last(head) as u64;
-    if 16 < p + last {
-        return 16;
-    }
-    (p + last) as u8
+    fragments_in_p(head)
+        .saturating_add(fragments_last(head))
+        .min(16)
 }
 
 // Fragments in the round after P: Q's, or the trigger's one.
@@ -81,11 +75,7 @@ pub fn join(word: u16) -> u8
 pub fn ranges_in(word: u16) -> u8
     ensures { result ≡ count_in word }
 {
-    let n = word / 256 % 256;
-    if 8 < n {
-        return 8;
-    }
-    n as u8
+    (word / 256 % 256).min(8) as u8
 }
 
 // ---- a range's word

@@ -7,7 +7,7 @@ use Rattle.cells.proofs.preceding.Goals as goal
 
 pub returns-then-f-eq0 : goal.returns-then-f-eq0
 unfolding before_from
-returns-then-f-eq0 c = (simp (eq-eqb _ _ c.if-f-eq0.true, c.fragments_in_round-all.ensures), omega (arith, c.fragments_in_round-all.ensures, round-small c.args.head))
+returns-then-f-eq0 c = (simp (eq-eqb _ _ c.if-f-eq0.true, c.from-all.ensures, c.fragments_in_round.ensures), omega (arith, c.fragments_in_round.ensures, round-small c.args.head))
 
 pub returns : goal.returns
 unfolding before_from

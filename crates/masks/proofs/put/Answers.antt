@@ -5,4 +5,4 @@ use Rattle.masks.proofs.Ranges.{put-members}
 use Rattle.masks.proofs.put.Goals as goal
 
 pub returns : goal.returns
-returns c = record { members = put-members c.args.set (c.args.i % 8) c.args.on (omega arith) (omega arith) }
+returns c = rw c.from.ensures (record { members = put-members c.args.set (c.args.i % 8) c.args.on (omega arith) (omega arith) })

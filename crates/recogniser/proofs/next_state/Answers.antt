@@ -7,5 +7,5 @@ pub returns : goal.returns
 unfolding next_state
 returns c =
     let a = c.args in
-    rw (c.formula.ensures, c.at_most-2.ensures, c.at_most.ensures, c.is_shuffled.ensures, c.may_be_left_out.ensures, c.has_enough.ensures, c.has_room.ensures)
+    rw (c.formula.ensures, c.min-2.ensures, c.min.ensures, c.is_shuffled.ensures, c.may_be_left_out.ensures, c.has_enough.ensures, c.has_room.ensures)
     (formula-is (join_of a.join) (bounds a.u a.v) a.count a.state a.class)

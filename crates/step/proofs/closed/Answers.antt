@@ -8,4 +8,4 @@ use Rattle.step.proofs.closed.Goals as goal
 pub returns : goal.returns
 unfolding closed_of
 returns c =
-    rw (put-of (omega arith) c.put.ensures, c.next_state.ensures, c.with_state-states.ensures, c.next_state-done.ensures, mod-mod)
+    rw (put-of (omega arith) c.put.ensures, c.next_state-errs.ensures, c.with_state.ensures, c.next_state-done.ensures, mod-mod)

@@ -1,9 +1,7 @@
 -- `tables::few` meets its contract. Assumes nothing.
-use borrow.Author.Tests.{lt-ltb, le-ltb}
+use mathlib.Core.Path.{◌∙◌}
+use Rattle.tables.proofs.Bounds.{cap_is_min}
 use Rattle.tables.proofs.few.Goals as goal
 
-pub returns-then-n-gt16 : goal.returns-then-n-gt16
-returns-then-n-gt16 c = simp (lt-ltb _ _ c.if-n-gt16.true)
-
 pub returns : goal.returns
-returns c = simp (le-ltb _ _ c.if-n-gt16.false)
+returns c = c.min.ensures ∙ cap_is_min 16 c.args.n
