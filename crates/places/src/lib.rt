@@ -17,7 +17,7 @@ pub struct Places<'a> {
 }
 
 // It is seen as its table. What it keeps is that each place has its name.
-impl Model for Places<'_> {
+impl<'a> Model for Places<'a> {
     ghost use Rattle.std.specs.Prelude.{List, ℕ};
     ghost use Rattle.places.specs.Places.{Named};
 
