@@ -4,15 +4,32 @@
 
 ghost use Rattle.std.specs.Prelude.{◌≡◌, ◌<◌, length};
 ghost use Rattle.tables.specs.Cells.{name_at};
-ghost use Rattle.places.specs.Places.{cell_of, place_count, Placed, Named};
+ghost use Rattle.places.specs.Places.{cell_of, place_count, Placed};
 
+use std::marker::Model;
 use tables::Table;
 
-// Range i of fragment f of rule r stands at 128 r + 8 f + i; 64 where no name stands.
-pub type Places = [u8; 2048];
+// A table with the names by their places: range i of fragment f of rule r stands at 128 r + 8 f + i. 64 where no name stands: an `Option<u8>` takes two bytes of the fixed memory for each.
+#[derive(Drop)]
+pub struct Places<'a> {
+    table: &'a Table,
+    names: [u8; 2048],
+}
+
+// It is seen as its table. What it keeps is that each place has its name.
+impl<'a> Model for Places<'a> {
+    ghost use Rattle.std.specs.Prelude.{List, ℕ};
+    ghost use Rattle.places.specs.Places.{Named};
+
+    ghost Value = { List ℕ };
+
+    ghost view = { λ p. p.table.now };
+
+    ghost invariant = { λ p. Named p.table.now p.names };
+}
 
 // Puts name n at its place in each rule that holds it.
-fn place(names: &mut Places, table: &Table, n: usize)
+fn place(names: &mut [u8; 2048], table: &Table, n: usize)
     requires { (n < 64) × (length names.old ≡ place_count) }
     ensures { Placed table.now n names.old names.new }
 {
@@ -27,34 +44,38 @@ fn place(names: &mut Places, table: &Table, n: usize)
     }
 }
 
-// From the last name to the first, so that the lowest of those that stand at one place is the one that stays.
-pub fn places(table: &Table) -> Places
-    ensures { Named table.now result }
-{
-    let mut names = [64u8; 2048];
-    let mut n = tables::NAMES;
-    while 0 < n {
-        n = n - 1;
-        place(&mut names, table, n);
+impl<'a> Places<'a> {
+    // From the last name to the first, so that the lowest of those that stand at one place is the one that stays.
+    pub fn new(table: &'a Table) -> Self
+        ensures { result ≡ table.now }
+    {
+        let mut names = [64u8; 2048];
+        for n in (0..tables::NAMES).rev() {
+            place(&mut names, table, n);
+        }
+        Places { table, names }
     }
-    names
-}
 
-// ---- what is at a place
+    pub fn table(&self) -> &'a Table
+        ensures { result.now ≡ self.now }
+    {
+        self.table
+    }
 
-// The name that stands there.
-pub fn name_of<'a>(table: &'a Table, names: &'a Places, r: usize, f: usize, i: usize) -> u8
-    requires { Named table.now names.now × (r < 16) × (f < 16) × (i < 8) }
-    ensures { result ≡ name_at table.now r f i }
-{
-    names[128 * r + 8 * f + i]
-}
+    // The name that stands at a place.
+    pub fn name(&self, r: usize, f: usize, i: usize) -> u8
+        requires { (r < 16) × (f < 16) × (i < 8) }
+        ensures { result ≡ name_at self.now r f i }
+    {
+        self.names[128 * r + 8 * f + i]
+    }
 
-// The cell of the name at a place.
-pub fn cell_of<'a>(table: &'a Table, names: &'a Places, r: usize, f: usize, i: usize) -> u64
-    requires { Named table.now names.now × (r < 16) × (f < 16) × (i < 8) }
-    ensures { result ≡ cell_of table.now r f i }
-{
-    let n = names[128 * r + 8 * f + i] as usize;
-    table[tables::CELLS + tables::NAMES * r + n]
+    // The cell of the name at a place.
+    pub fn cell(&self, r: usize, f: usize, i: usize) -> u64
+        requires { (r < 16) × (f < 16) × (i < 8) }
+        ensures { result ≡ cell_of self.now r f i }
+    {
+        let n = self.name(r, f, i) as usize;
+        self.table[tables::CELLS + tables::NAMES * r + n]
+    }
 }

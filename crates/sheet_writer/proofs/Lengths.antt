@@ -76,6 +76,10 @@ module _ (table : List ℕ) where
       let n : ℕ = fragment_count (get_or table (head_at r) 0) in
       omega (arith, rule-length r, up_to-most (fragment_part table r) 42 n (λ f h. fragment-most r f), fragments-few (get_or table (head_at r) 0))
 
+  pub header-length : length (header_part table) ≡ 14
+  unfolding header_part
+  header-length = refl
+
   pub table-length : length (table_bytes table) ≡ 14 + length (up_to (rule_part table) (rule_count table))
   unfolding table_bytes header_part
   table-length = omega arith

@@ -1,47 +1,44 @@
--- Parts put one after the other: what a buffer holds after some of them, when it has room for the next, and what they make with a first part. Assumes nothing.
-use mathlib.Core.Path.{◌≡◌, ◌∙◌, ap, ap₂}
-use mathlib.Core.List.{List, ◌++◌}
-use Prim.Native.Nat.{ℕ, ◌+◌, ◌*◌, ◌≤◌, ◌<◌}
+-- Bytes put one after the other: where a first part is written and then a second, both are; and where all parts fit, there is room for each. Assumes nothing.
+use mathlib.Core.Path.{◌≡◌, refl, ◌∙◌, ap, ap₂, subst}
+use mathlib.Core.List.{List, [], ◌++◌}
+use Prim.Native.Nat.{ℕ, zero, suc, ◌+◌, ◌<◌}
 use native.Mathlib.Numerals.{add-one}
 use native.Mathlib.Omega.{arith}
-use lib.ListN.{length, get_or, length-append}
+use lib.ListN.{length, length-append}
 use lib.Seq.{sets, length-sets}
-use Rattle.layout.specs.Layout.{range_bytes}
+use Rattle.layout.specs.Layout.{le}
 use Rattle.store.proofs.Stores.{sets-append}
-use Rattle.places.specs.Places.{cell_of, Named}
-use Rattle.places.proofs.Reading.{name-read}
-use Rattle.sheet_writer.specs.Parts.{up_to, range_in, range_part}
+use Rattle.sheet_writer.specs.declared.Writer.{Writer}
+use Rattle.sheet_writer.specs.Parts.{up_to}
+use Rattle.sheet_writer.specs.Wrote.{HasRoom, Wrote}
 use Rattle.sheet_writer.proofs.Lengths.{room_of}
 
--- `out` is `l` with the first k parts from `at` on, and they end at `end`
-pub record Puts (g : ℕ → List ℕ) (l : List ℕ) (at k : ℕ) (out : List ℕ) (end : ℕ) : Type 0 where
-  pub ends : end ≡ at + length (up_to g k)
-  pub same : out ≡ sets l at (up_to g k)
+pub le-long : (n x : ℕ) → length (le n x) ≡ n
+le-long zero x = refl
+le-long (suc n) x = ap suc (le-long n _)
 
-module _ {g : ℕ → List ℕ} {l out : List ℕ} {at k end : ℕ} (put : Puts g l at k out end) where
-  pub puts-length : length out ≡ length l
-  puts-length = ap length put.same ∙ length-sets l at (up_to g k)
+pub wrote-is : {a b : Writer} {x y : List ℕ} → x ≡ y → Wrote a b x → Wrote a b y
+wrote-is {a} {b} e w = subst (Wrote a b) e w
 
-  -- where n fit, there is room for the next
-  pub puts-room : (n : ℕ) → k < n → at + length (up_to g n) ≤ length l → end + length (g k) ≤ length out
-  puts-room n h fit = omega (arith, room_of g k n h, put.ends, puts-length)
+pub wrote-nothing : (a : Writer) → Wrote a a []
+wrote-nothing a = record { same_buffer = refl; at = omega arith; buffer = refl }
 
-  pub puts-more : {next : List ℕ} {end' : ℕ} → end' ≡ end + length (g k) → next ≡ sets out end (g k) → Puts g l at (k + 1) next end'
-  puts-more e same = rw add-one (record {
-    ends = omega (arith, put.ends, length-append (up_to g k) (g k));
-    same = same ∙ ap₂ (λ (o : List ℕ) (i : ℕ). sets o i (g k)) put.same put.ends ∙ sets-append l (up_to g k) (g k) at;
-  })
+module _ {a b : Writer} {x : List ℕ} (first : Wrote a b x) where
+  pub wrote-then : {c : Writer} {y : List ℕ} → Wrote b c y → Wrote a c (x ++ y)
+  wrote-then {c} {y} then = record {
+    same_buffer = then.same_buffer ∙ first.same_buffer;
+    at = omega (arith, first.at, then.at, length-append x y);
+    buffer = then.buffer ∙ ap₂ (λ (o : List ℕ) (i : ℕ). sets o i y) first.buffer first.at ∙ sets-append a.buffer.now x y a.at;
+  }
 
-  -- they follow a first part
-  pub puts-after : (before first : List ℕ) (from n : ℕ) → l ≡ sets before from first → at ≡ from + length first → k ≡ n
-      → (end ≡ from + length (first ++ up_to g n)) × (out ≡ sets before from (first ++ up_to g n))
-  puts-after before first from n e a m = (
-    omega (arith, put.ends, length-append first (up_to g n), ap (λ (i : ℕ). length (up_to g i)) m),
-    (rw m at put).same ∙ ap₂ (λ (o : List ℕ) (i : ℕ). sets o i (up_to g n)) e a ∙ sets-append before first (up_to g n) from,
-  )
+  pub wrote-long : length b.buffer.now ≡ length a.buffer.now
+  wrote-long = ap length first.buffer ∙ length-sets a.buffer.now a.at x
 
--- a range's part, of the name that is read at its place and of its cell
-pub range-read : (table names : List ℕ) (r f i : ℕ) → Named table names × (r < 16) × (f < 16) × (i < 8) → {cell : ℕ} → cell ≡ cell_of table r f i
-    → range_bytes (range_in (get_or names (128 * r + 8 * f + i) 0) cell) ≡ range_part table r f i
-unfolding range_part
-range-read table names r f i at e = ap₂ (λ (n c : ℕ). range_bytes (range_in n c)) (name-read table names r f i at) e
+-- ---- parts by their numbers: those below k, and part k
+
+module _ (g : ℕ → List ℕ) {a b : Writer} (k : ℕ) (below : Wrote a b (up_to g k)) where
+  pub room-part : (n : ℕ) → k < n → HasRoom a (up_to g n) → HasRoom b (g k)
+  room-part n h room = omega (arith, room_of g k n h, room, below.at, wrote-long below)
+
+  pub wrote-part : {c : Writer} → Wrote b c (g k) → Wrote a c (up_to g (k + 1))
+  wrote-part here = rw add-one (wrote-then below here)

@@ -7,6 +7,7 @@ use native.Mathlib.Omega.{arith}
 use lib.ListN.{length, take, drop}
 use lib.Seq.{sets, sets-eq, take-append_seam}
 use borrow.Author.Tests.{lt-ltb, le-ltb}
+use Rattle.std.specs.Prelude.{Result, Ok, Err}
 use Rattle.layout.specs.Terms.{today}
 use Rattle.layout.specs.Layout.{Sheet, encode, WellFormedSheet, Bytes, longest}
 use Rattle.layout.specs.Reading.{accepted, read_sheet}
@@ -17,9 +18,7 @@ use Rattle.book.specs.declared.Translation.{Translation}
 use Rattle.book.specs.Books.{Translates}
 use Rattle.book.specs.Looks.{Looks}
 use Rattle.book.proofs.Translated.{translated, answered}
-use Rattle.sheet_writer.specs.declared.Written.{Written}
-use Rattle.sheet_writer.specs.declared.Written.TheVariants.{TooShort}
-use Rattle.sheet_writer.specs.declared.Written.TheVariants as W
+use Rattle.sheet_writer.specs.declared.TooShort.{TooShort}
 use Rattle.sheet_writer.specs.Parts.{table_bytes}
 use Rattle.store.specs.Answers.{written, refused}
 use Rattle.sheet_writer.specs.Writing.{answer_of, Writing, writing_of, Writes, WritesBack}
@@ -42,10 +41,10 @@ module _ (table before : List ℕ) (n : ℕ) (size : n ≡ length (table_bytes t
   own : (S : Sheet) (b : Book) → WellFormedSheet S → Looks S b → b.table ≡ table → table_bytes table ≡ encode S
   own S b w l e = subst (λ (t : List ℕ). table_bytes t ≡ encode S) e (own-bytes S b w l)
 
-  pub writes_nothing : length before < n → Writes table before TooShort before
-  writes_nothing h = record { bytes = table_bytes table; few = table-most table; call = sym (fits_not (table_bytes table) before (omega (arith, h, size))); own = own }
+  pub writes_nothing : (e : TooShort) → length before < n → Writes table before (Err e) before
+  writes_nothing e h = record { bytes = table_bytes table; few = table-most table; call = sym (fits_not (table_bytes table) before (omega (arith, h, size))); own = own }
 
-  pub writes-all : (after : List ℕ) → n ≤ length before → after ≡ sets before 0 (table_bytes table) → Writes table before (W.Bytes n) after
+  pub writes-all : (after : List ℕ) → n ≤ length before → after ≡ sets before 0 (table_bytes table) → Writes table before (Ok n) after
   writes-all after h e =
       let room : length (table_bytes table) ≤ length before = omega (arith, h, size) in
       record {
@@ -58,7 +57,7 @@ module _ (table before : List ℕ) (n : ℕ) (size : n ≡ length (table_bytes t
 -- ---- for each accepted sheet
 
 -- s is the sheet S in bytes, and the table is its book's
-module _ {table before after : List ℕ} {r : Written} (writes : Writes table before r after) (s : List ℕ) (S : Sheet) (b : Book) (accepts : Accepts today s S) (looks : Looks S b) (is : b.table ≡ table) where
+module _ {table before after : List ℕ} {r : Result ℕ TooShort} (writes : Writes table before r after) (s : List ℕ) (S : Sheet) (b : Book) (accepts : Accepts today s S) (looks : Looks S b) (is : b.table ≡ table) where
   call : record { answer = answer_of r; buffer = after } ≡ writing_of s before
   call = writes.call ∙ ap (λ (l : List ℕ). writing_of l before) (writes.own S b accepts.formed looks is ∙ sym accepts.bytes)
 
@@ -77,7 +76,7 @@ module _ {table before after : List ℕ} {r : Written} (writes : Writes table be
 
 -- writing its book gives its own bytes, which are read as the same sheet and translated into the same book
 pub write-then-read : (s : List ℕ) → Bytes s → (t : Translation) → Translates s t → (S : Sheet) → read_sheet s ≡ accepted S
-    → (before : List ℕ) (r : Written) (after : List ℕ) → Writes t.book.table before r after → WritesBack s t before r after
+    → (before : List ℕ) (r : Result ℕ TooShort) (after : List ℕ) → Writes t.book.table before r after → WritesBack s t before r after
 write-then-read s bytes t translates S is before r after writes =
     let accepts : Accepts today s S = accepted-is-encoded s bytes is in
     let looks = translated s t bytes translates S is in

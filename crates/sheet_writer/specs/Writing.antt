@@ -1,6 +1,6 @@
 -- Writing a book (document 02, change 3): "For each accepted sheet, writing its book gives the sheet's own bytes and version, and reading these gives the same book."
 -- Assumes nothing.
-use Rattle.std.specs.Prelude.{◌≡◌, cond, List, ◌++◌, ℕ, ◌≤◌, ◌<◌, ltb, length, take, drop}
+use Rattle.std.specs.Prelude.{◌≡◌, cond, Result, Ok, Err, List, ◌++◌, ℕ, ◌≤◌, ◌<◌, ltb, length, take, drop}
 use Rattle.layout.specs.Layout.{Sheet, encode, WellFormedSheet}
 use Rattle.layout.specs.Reading.{read_sheet}
 use Rattle.book.specs.Books.{Translates}
@@ -8,16 +8,15 @@ use Rattle.book.specs.Looks.{Looks}
 use Rattle.book.specs.declared.Book.{Book}
 use Rattle.book.specs.declared.Translation.{Translation}
 use Rattle.store.specs.Answers.{Answer, written, refused}
-use Rattle.sheet_writer.specs.declared.Written.{Written}
-use Rattle.sheet_writer.specs.declared.Written.TheVariants.{Bytes, TooShort}
+use Rattle.sheet_writer.specs.declared.TooShort.{TooShort}
 use Rattle.sheet_writer.specs.Parts.{most_bytes}
 
 -- ---- what a call answers
 
 -- "The answer is the number of bytes written"; "Turned away: 16, buffer shorter than the sheet": document 02's number for each case of the code's answer
-abbrev pub answer_of : Written → Answer
-answer_of (Bytes n) = written n
-answer_of TooShort = refused 16
+abbrev pub answer_of : Result ℕ TooShort → Answer
+answer_of (Ok n) = written n
+answer_of (Err _) = refused 16
 
 -- ---- the call
 
@@ -35,7 +34,7 @@ writing_of bytes buffer =
 
 -- the promise: whatever the table, some bytes are written, and those of a sheet's book are the sheet's own. "For a book that no sheet gives, the result .. is free": which bytes these are is
 -- then the program's choice
-pub record Writes (table before : List ℕ) (r : Written) (after : List ℕ) : Type 0 where
+pub record Writes (table before : List ℕ) (r : Result ℕ TooShort) (after : List ℕ) : Type 0 where
   pub bytes : List ℕ
   pub few : length bytes ≤ most_bytes
   pub call : record { answer = answer_of r; buffer = after } ≡ writing_of bytes before
@@ -44,7 +43,7 @@ pub record Writes (table before : List ℕ) (r : Written) (after : List ℕ) : T
 -- ---- writing, then reading
 
 -- sheet s, translated, written into a buffer
-pub record WritesBack (s : List ℕ) (t : Translation) (before : List ℕ) (r : Written) (after : List ℕ) : Type 0 where
+pub record WritesBack (s : List ℕ) (t : Translation) (before : List ℕ) (r : Result ℕ TooShort) (after : List ℕ) : Type 0 where
   -- "writing its book gives the sheet's own bytes"; a buffer of just the sheet's length is enough
   pub own : length s ≤ length before → (answer_of r ≡ written (length s)) × (after ≡ s ++ drop (length s) before)
   -- "buffer shorter than the sheet, nothing written"

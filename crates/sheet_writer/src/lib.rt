@@ -3,11 +3,10 @@
 // shorter than the sheet, nothing written". Nothing is asked of the table.
 #![tactic(auto)]
 
-ghost use Rattle.std.specs.Prelude.{◌≡◌, ◌+◌, ◌≤◌, ◌<◌, length};
-ghost use Rattle.std.proofs.lemmas.List.Edits.{sets};
+ghost use Rattle.std.specs.Prelude.{◌≡◌, ◌<◌, length};
 ghost use Rattle.layout.specs.Layout.{le, range_bytes, mark};
-ghost use Rattle.places.specs.Places.{Named};
 ghost use Rattle.sheet_writer.specs.Parts.{version_field, outputs_field, join_field, least_field, most_field, range_in, fragment_part, fragments_in, fragment_count, rule_part, rule_count, header_part, table_bytes};
+ghost use Rattle.sheet_writer.specs.Wrote.{HasRoom, Wrote};
 ghost use Rattle.sheet_writer.specs.Writing.{Writes};
 
 use places::Places;
@@ -50,12 +49,10 @@ fn most_field(cell: u64) -> u64
 fn rule_count(table: &Table) -> usize
     ensures { result ≡ rule_count table.now }
 {
-    let mut r = 0usize;
-    while r < 16 {
+    for r in 0..16 {
         if table[tables::HEADS + r] == 0 {
             return r;
         }
-        r = r + 1;
     }
     16
 }
@@ -76,144 +73,128 @@ fn fragment_count(head: u64) -> usize
 
 // ---- the size
 
-fn rule_size<'a>(table: &'a Table, names: &'a Places, r: usize) -> usize
-    requires { Named table.now names.now × (r < 16) }
-    ensures { result ≡ length (rule_part table.now r) }
+fn rule_size(places: &Places, r: usize) -> usize
+    requires { r < 16 }
+    ensures { result ≡ length (rule_part places.now r) }
 {
-    let count = fragment_count(table[tables::HEADS + r]);
     let mut size = 8usize;
-    let mut f = 0usize;
-    while f < count {
-        size = size + 7 + 5 * (tables::less_in(places::cell_of(table, names, r, f, 0)) as usize);
-        f = f + 1;
+    for f in 0..fragment_count(places.table()[tables::HEADS + r]) {
+        size += 7 + 5 * (tables::less_in(places.cell(r, f, 0)) as usize);
     }
     size
 }
 
-fn size<'a>(table: &'a Table, names: &'a Places, count: usize) -> usize
-    requires { Named table.now names.now × (count ≡ rule_count table.now) }
-    ensures { result ≡ length (table_bytes table.now) }
+fn size(places: &Places) -> usize
+    ensures { result ≡ length (table_bytes places.now) }
 {
     let mut size = 14usize;
-    let mut r = 0usize;
-    while r < count {
-        size = size + rule_size(table, names, r);
-        r = r + 1;
+    for r in 0..rule_count(places.table()) {
+        size += rule_size(places, r);
     }
     size
 }
 
 // ---- the bytes
 
-fn put_range(buffer: &mut [u8], at: usize, name: u8, cell: u64)
-    requires { at + 5 ≤ length buffer.old }
-    ensures { buffer.new ≡ sets buffer.old at (range_bytes (range_in name cell)) }
-{
-    store::put(buffer, at, 1, name as u64);
-    store::put(buffer, at + 1, 2, least_field(cell));
-    store::put(buffer, at + 3, 2, most_field(cell));
+// The buffer, and where in it the next bytes go.
+#[derive(Drop)]
+struct Writer<'a> {
+    pub buffer: &'a mut [u8],
+    pub at: usize,
 }
 
-// Fragment f of rule r from an offset on, and the offset after it.
-fn put_fragment<'a>(
-    buffer: &mut [u8],
-    at: usize,
-    table: &'a Table,
-    names: &'a Places,
-    r: usize,
-    f: usize,
-) -> usize
-    requires { Named table.now names.now × (r < 16) × (f < 16) × (at + length (fragment_part table.now r f) ≤ length buffer.old) }
-    ensures { (result ≡ at + length (fragment_part table.now r f)) × (buffer.new ≡ sets buffer.old at (fragment_part table.now r f)) }
-{
-    let first = places::cell_of(table, names, r, f, 0);
-    let count = (tables::less_in(first) as usize) + 1;
-    store::put(buffer, at, 1, join_field(first));
-    store::put(buffer, at + 1, 1, count as u64);
-    let mut i = 0usize;
-    while i < count {
-        let name = names[128 * r + 8 * f + i];
-        let cell = places::cell_of(table, names, r, f, i);
-        put_range(buffer, at + 2 + 5 * i, name, cell);
-        i = i + 1;
+impl<'a> Writer<'a> {
+    // A number's n bytes.
+    fn put(&mut self, n: usize, x: u64)
+        requires { HasRoom self.old (le n x) }
+        ensures { Wrote self.old self.new (le n x) }
+    {
+        store::put(self.buffer, self.at, n, x);
+        self.at += n;
     }
-    at + 2 + 5 * count
-}
 
-// Rule r from an offset on, and the offset after it.
-fn put_rule<'a>(
-    buffer: &mut [u8],
-    at: usize,
-    table: &'a Table,
-    names: &'a Places,
-    r: usize,
-) -> usize
-    requires { Named table.now names.now × (r < 16) × (at + length (rule_part table.now r) ≤ length buffer.old) }
-    ensures { (result ≡ at + length (rule_part table.now r)) × (buffer.new ≡ sets buffer.old at (rule_part table.now r)) }
-{
-    let head = table[tables::HEADS + r];
-    let count = fragment_count(head);
-    store::put(buffer, at, 8, head);
-    let mut end = at + 8;
-    let mut f = 0usize;
-    while f < count {
-        end = put_fragment(buffer, end, table, names, r, f);
-        f = f + 1;
+    fn put_range(&mut self, name: u8, cell: u64)
+        requires { HasRoom self.old (range_bytes (range_in name cell)) }
+        ensures { Wrote self.old self.new (range_bytes (range_in name cell)) }
+    {
+        self.put(1, name as u64);
+        self.put(2, least_field(cell));
+        self.put(2, most_field(cell));
     }
-    end
-}
 
-// "the mark 4C 4F 42"
-fn put_mark(buffer: &mut [u8])
-    requires { 3 ≤ length buffer.old }
-    ensures { buffer.new ≡ sets buffer.old 0 (le 3 mark) }
-{
-    store::put(buffer, 0, 3, 0x42_4F_4C);
-}
+    // Fragment f of rule r.
+    fn put_fragment(&mut self, places: &Places, r: usize, f: usize)
+        requires { (r < 16) × (f < 16) × HasRoom self.old (fragment_part places.now r f) }
+        ensures { Wrote self.old self.new (fragment_part places.now r f) }
+    {
+        let first = places.cell(r, f, 0);
+        let count = (tables::less_in(first) as usize) + 1;
+        self.put(1, join_field(first));
+        self.put(1, count as u64);
+        for i in 0..count {
+            self.put_range(places.name(r, f, i), places.cell(r, f, i));
+        }
+    }
 
-fn put_header(buffer: &mut [u8], table: &Table, count: usize)
-    requires { (14 ≤ length buffer.old) × (count ≡ rule_count table.now) }
-    ensures { buffer.new ≡ sets buffer.old 0 (header_part table.now) }
-{
-    put_mark(buffer);
-    store::put(buffer, 3, 2, version_field(table));
-    store::put(buffer, 5, 8, outputs_field(table));
-    store::put(buffer, 13, 1, count as u64);
-}
+    // Rule r: its head, and its fragments.
+    fn put_rule(&mut self, places: &Places, r: usize)
+        requires { (r < 16) × HasRoom self.old (rule_part places.now r) }
+        ensures { Wrote self.old self.new (rule_part places.now r) }
+    {
+        let head = places.table()[tables::HEADS + r];
+        self.put(8, head);
+        for f in 0..fragment_count(head) {
+            self.put_fragment(places, r, f);
+        }
+    }
 
-fn put_sheet<'a>(buffer: &mut [u8], table: &'a Table, names: &'a Places, count: usize)
-    requires { Named table.now names.now × (count ≡ rule_count table.now) × (length (table_bytes table.now) ≤ length buffer.old) }
-    ensures { buffer.new ≡ sets buffer.old 0 (table_bytes table.now) }
-{
-    put_header(buffer, table, count);
-    let mut end = 14usize;
-    let mut r = 0usize;
-    while r < count {
-        end = put_rule(buffer, end, table, names, r);
-        r = r + 1;
+    // "the mark 4C 4F 42"
+    fn put_mark(&mut self)
+        requires { HasRoom self.old (le 3 mark) }
+        ensures { Wrote self.old self.new (le 3 mark) }
+    {
+        self.put(3, 0x42_4F_4C);
+    }
+
+    fn put_header(&mut self, table: &Table)
+        requires { HasRoom self.old (header_part table.now) }
+        ensures { Wrote self.old self.new (header_part table.now) }
+    {
+        self.put_mark();
+        self.put(2, version_field(table));
+        self.put(8, outputs_field(table));
+        self.put(1, rule_count(table) as u64);
+    }
+
+    fn put_sheet(&mut self, places: &Places)
+        requires { HasRoom self.old (table_bytes places.now) }
+        ensures { Wrote self.old self.new (table_bytes places.now) }
+    {
+        let table = places.table();
+        self.put_header(table);
+        for r in 0..rule_count(table) {
+            self.put_rule(places, r);
+        }
     }
 }
 
 // ---- the call
 
-#[derive(Drop)]
-pub enum Written {
-    Bytes(usize),
-    // 16
-    TooShort,
-}
+// 16, "buffer shorter than the sheet"
+#[derive(Clone, Copy, PartialEq, Eq, Debug)]
+pub struct TooShort;
 
 // Writes the sheet of a book into the buffer. "The answer is the number of bytes written. Bytes of the buffer past the sheet don't change." "Turned away: 16, buffer shorter than the sheet,
 // nothing written." Of a table that no sheet gives, what is written is free; it is inside the buffer.
-pub fn write(table: &Table, buffer: &mut [u8]) -> Written
+pub fn write(table: &Table, buffer: &mut [u8]) -> Result<usize, TooShort>
     ensures { Writes table.now buffer.old result buffer.new }
 {
-    let names = places::places(table);
-    let count = rule_count(table);
-    let bytes = size(table, &names, count);
+    let places = Places::new(table);
+    let bytes = size(&places);
     if buffer.len() < bytes {
-        return Written::TooShort;
+        return Err(TooShort);
     }
-    put_sheet(buffer, table, &names, count);
-    Written::Bytes(bytes)
+    let mut writer = Writer { buffer, at: 0 };
+    writer.put_sheet(&places);
+    Ok(bytes)
 }

@@ -11,10 +11,8 @@ pub fn put(out: &mut [u8], at: usize, n: usize, x: u64)
     ensures { out.new ≡ sets out.old at (le n x) }
 {
     let mut rest = x;
-    let mut i = 0usize;
-    while i < n {
+    for i in 0..n {
         out[at + i] = (rest % 256) as u8;
         rest = rest / 256;
-        i = i + 1;
     }
 }

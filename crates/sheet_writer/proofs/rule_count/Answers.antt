@@ -9,16 +9,13 @@ use Rattle.sheet_writer.proofs.rule_count.Goals as goal
 
 pub loop-r-init : goal.loop-r-init
 unfolding rule_count
-loop-r-init c = (omega arith, λ n e. let all : n ≡ 16 = omega arith in rw all)
+loop-r-init c = λ n e. let all : n ≡ 16 = omega arith in rw all
 
 pub returns-then-table-r-eq0 : goal.returns-then-table-r-eq0
-returns-then-table-r-eq0 c = sym (rw (eq-eqb _ 0 c.if-table-r-eq0.true) at (c.loop-r.invariant.1 (suc (15 - c.loop-r.r)) (omega arith)))
-
-pub loop-r-smaller : goal.loop-r-smaller
-loop-r-smaller c = omega arith
+returns-then-table-r-eq0 c = sym (rw (eq-eqb _ 0 c.if-table-r-eq0.true) at (c.loop-r.invariant (suc (15 - c.loop-r.r)) (omega arith)))
 
 pub loop-r-preserved : goal.loop-r-preserved
-loop-r-preserved c = (omega arith, λ n e. rw add-one (rw (ne_eqb _ 0 c.if-table-r-eq0.false) at (c.loop-r.invariant.1 (suc n) (omega (arith, e)))))
+loop-r-preserved c = λ n e. rw add-one (rw (ne_eqb _ 0 c.if-table-r-eq0.false) at (c.loop-r.invariant (suc n) (omega (arith, e))))
 
 pub returns : goal.returns
-returns c = omega (arith, c.loop-r.invariant.1 0 (omega arith))
+returns c = let end : c.loop-r.r ≡ 16 = omega arith in omega (arith, end, c.loop-r.invariant 0 (omega arith))
