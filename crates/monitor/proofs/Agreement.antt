@@ -35,9 +35,8 @@ use Rattle.rule_state.specs.declared.RuleState.{RuleState}
 use Rattle.step.specs.Shows.{untouched, running}
 use Rattle.words.specs.Words.{no_state, Held, Clean}
 use Rattle.opening.specs.Fresh.{fresh_state, fresh_held}
-use Rattle.monitor.specs.Promise.{seen, values_of, verdict_in, no_model, model_at, Represents, Tracks, Form, in_memory, Follows, Observes, Freshes, Run, done, more, CodeAgreement}
+use Rattle.monitor.specs.Promise.{Answer, seen, values_of, verdict_in, no_model, model_at, Represents, Tracks, Form, in_memory, Follows, Observes, Freshes, Run, done, more, CodeAgreement}
 use Rattle.answers.specs.declared.Observation.{Observation}
-use Rattle.answers.specs.declared.Answer.{Answer}
 
 -- ---- the fresh monitor
 
@@ -67,7 +66,8 @@ module _ (S : Sheet) (formed : WellFormedSheet S) where
       look : (x : Bool) → ltb r (length S.rules) ≡ x → (x && running (rule_at S.rules r) (model_at (M.fresh_states S.rules) r)) ≡ false
       look true q =
           let h : r < length S.rules = ltb-true r (length S.rules) q in
-          rw (fresh_at S.rules r no_model h, is_true (at_rest (rule_at S.rules r) (fresh (rule_at S.rules r))) (fresh-at-rest (rule_at S.rules r) (rule-formed S formed r h))) (and-false (is_timed (rule_at S.rules r).kind))
+          let rule : Rule = rule_at S.rules r in
+          rw (fresh_at S.rules r no_model h, is_true (at_rest rule (fresh rule)) (fresh-at-rest rule (rule-formed S formed r h))) (and-false (is_timed rule.kind))
       look false q = refl
 
   fresh-represents : Represents S.rules (fresh_monitor S.rules) fresh_held

@@ -35,14 +35,17 @@ pub record Ruled (rule : Rule) (time : ℕ) (S : M.RuleState) (st : RuleState) (
 
 module _ (table : List ℕ) (concerned r : ℕ) (rule : Rule) (h : HoldsRule table r rule) (sound : Sound rule) (st : RuleState) (S : M.RuleState) (w : Shows rule st S) (name time : ℕ) where
   -- a rule that has the name
-  steps : T (is_in name (names_of rule)) → member concerned r ≡ true → (let s : Stepped = rule_of table concerned r st name time in Ruled rule time (step rule S (record { name = name; time = time })) s.state (is_broken s.standing) (is_open s.standing) (is_due s.standing))
+  steps : T (is_in name (names_of rule)) → member concerned r ≡ true
+      → (let s : Stepped = rule_of table concerned r st name time in Ruled rule time (step rule S (record { name = name; time = time }))
+      s.state (is_broken s.standing) (is_open s.standing) (is_due s.standing))
   unfolding rule_of
   steps named m =
       let l = acts h sound time st S w name named in
       rw m (record { shows = l.shows; broken' = ap J.is_broken l.status; open'' = ap J.is_open l.status; due = l.due })
 
   -- a rule whose deadline runs
-  waits : member concerned r ≡ false → running rule S ≡ true → (let s : Stepped = rule_of table concerned r st name time in Ruled rule time S s.state (is_broken s.standing) (is_open s.standing) (is_due s.standing))
+  waits : member concerned r ≡ false → running rule S ≡ true
+      → (let s : Stepped = rule_of table concerned r st name time in Ruled rule time S s.state (is_broken s.standing) (is_open s.standing) (is_due s.standing))
   unfolding rule_of
   waits m run = rw (m, held_to h sound st S w run time) (record {
     shows = λ z. w;
@@ -72,8 +75,10 @@ module _ (table : List ℕ) (concerned r : ℕ) (rule : Rule) (h : HoldsRule tab
   }
 
   -- the three together, as the loop over the rules looks at them: `due` is the old bit of the deadlines, `bit` that of the open rules
-  pub ruled : (latest : ℕ) (own due bit : Bool) → (own ≡ true → T (is_in name (names_of rule))) → member concerned r ≡ own → due ≡ running rule S → bit ≡ J.is_open (status_at rule S latest) → J.is_broken (status_at rule S latest) ≡ false
-      → (let s : Stepped = rule_of table concerned r st name time in Ruled rule time (cond own (step rule S (record { name = name; time = time })) S) (cond (own || due) s.state st) ((own || due) && is_broken s.standing) (cond (own || due) (is_open s.standing) bit) ((own || due) && is_due s.standing))
+  pub ruled : (latest : ℕ) (own due bit : Bool) → (own ≡ true → T (is_in name (names_of rule))) → member concerned r ≡ own → due ≡ running rule S
+      → bit ≡ J.is_open (status_at rule S latest) → J.is_broken (status_at rule S latest) ≡ false
+      → (let s : Stepped = rule_of table concerned r st name time in Ruled rule time (cond own (step rule S (record { name = name; time = time })) S)
+      (cond (own || due) s.state st) ((own || due) && is_broken s.standing) (cond (own || due) (is_open s.standing) bit) ((own || due) && is_due s.standing))
   ruled latest true due bit named m d o k = steps (named refl) m
   ruled latest false true bit named m d o k = waits m (sym d)
   ruled latest false false bit named m d o k = rests latest bit (sym d) o k

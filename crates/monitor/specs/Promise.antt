@@ -5,7 +5,7 @@ use Rattle.std.specs.Prelude.{◌≡◌, false, cond, ◌&&◌, List, [], ◌∷
 use Rattle.names.specs.Names.{member}
 use Rattle.pattern.specs.Meaning.{Rule}
 use Rattle.pattern.specs.Judge.{NeverFalls, Oracle, Right, Verdict, all_whole, some_open, broken_at, verdict_of, mask, is_open, Kept, nothing, judge, judge_answers, judge_keeps}
-use Rattle.pattern.specs.Values.{verdict_values, answer_values}
+use Rattle.pattern.specs.Values.{answer_values}
 use Rattle.pattern.specs.Model.{statuses}
 use Rattle.pattern.specs.Model as M
 use Rattle.pattern.specs.Agreement as A
@@ -18,16 +18,16 @@ use Rattle.words.specs.Words.{no_state, Held, held_by, Fits, Blank}
 use Rattle.opening.specs.Fresh.{fresh_held}
 use Rattle.answers.specs.Observe.{observe_of}
 use Rattle.answers.specs.declared.Observation.{Observation}
-use Rattle.answers.specs.declared.Answer.{Answer}
-pub use Rattle.answers.specs.Cases.{seen, values_of}
+use Rattle.answers.specs.declared.Verdict as V
+pub use Rattle.answers.specs.Cases.{Answer, seen, said, values_of}
 
 -- the verdict that a monitor holds: 2 is broken, at the last observation taken; 1 is open
 abbrev pub verdict_in : Held → Verdict
 verdict_in m = cond (eqb m.verdict 2) (broken_at m.taken m.mask) (cond (eqb m.verdict 1) (some_open m.mask) all_whole)
 
--- an answer says the verdict that a monitor holds
-abbrev pub Says : Answer → Held → Type 0
-Says a m = values_of a ≡ verdict_values (verdict_in m)
+-- it is the verdict that a monitor holds
+abbrev pub Says : V.Verdict → Held → Type 0
+Says v m = said v ≡ verdict_in m
 
 -- ---- a monitor's numbers, and the state of the model that they stand for
 

@@ -4,11 +4,11 @@
 #![tactic(auto)]
 
 ghost use Rattle.std.specs.Prelude.{◌≡◌};
-ghost use Rattle.words.specs.Words.{held_by};
+ghost use Rattle.words.specs.Words.{Held, held_by};
 ghost use Rattle.answers.specs.declared.Observation.TheVariants.{Event, Clock};
 ghost use Rattle.monitor.specs.Promise.{in_memory, Observes, Freshes, Says};
 
-use answers::{Answer, Observation};
+use answers::{Answer, Observation, Verdict};
 use tables::Table;
 use words::Memory;
 
@@ -43,18 +43,21 @@ pub fn fresh() -> Memory
 }
 
 // The verdict that a monitor holds.
-pub fn verdict(m: &Memory) -> Answer
+pub fn verdict(m: &Memory) -> Verdict
     ensures { Says result (held_by m.now) }
 {
-    let v = words::verdict(m);
-    let mask = words::mask(m);
-    if v == 2 {
-        return Answer::Broken(words::taken(m), mask);
+    verdict_by(words::verdict(m), words::taken(m), words::mask(m))
+}
+
+// The verdict by the numbers that a monitor keeps of it, which may be any: 2 is broken, at the last observation taken; 1 is open; every other is whole.
+pub fn verdict_by(number: u8, taken: u32, mask: u16) -> Verdict
+    ensures { (m : Held) → m.verdict ≡ number → m.taken ≡ taken → m.mask ≡ mask → Says result m }
+{
+    match number {
+        2 => Verdict::Broken(taken, mask),
+        1 => Verdict::Open(mask),
+        _ => Verdict::Whole,
     }
-    if v == 1 {
-        return Answer::Open(mask);
-    }
-    Answer::Whole
 }
 
 // The number of observations that a monitor has taken.

@@ -2,7 +2,7 @@
 use Rattle.observing.proofs.observed_by.Goals as goal
 
 pub returns-in-Event : goal.returns-in-Event
-returns-in-Event c = rw c.in-Event.is c.noted.ensures
+returns-in-Event c = rw (c.in-Event.is, ← c.from.ensures) c.noted.ensures
 
 pub returns-in-Clock : goal.returns-in-Clock
 returns-in-Clock c = rw c.in-Clock.is c.ticked.ensures

@@ -1,23 +1,15 @@
 -- `observing::ticked` meets its contract: a stopped book answers as before; any other clock reading is taken, or refused by its time or by the count. Assumes nothing.
-use native.Mathlib.Omega.{arith}
-use Rattle.answers.proofs.Leaving.{takes-early, takes-full, takes-judged, leaves-stopped, leaves-clock}
+use Rattle.std.proofs.lemmas.Result.{err_from_is_err_and}
+use Rattle.answers.proofs.Leaving.{takes-refused, takes-judged, leaves-stopped, leaves-clock}
 use Rattle.observing.proofs.ticked.Goals as goal
 
-pub returns-then-verdict-eq2 : goal.returns-then-verdict-eq2
-returns-then-verdict-eq2 c =
-    leaves-stopped (omega (arith, c.if-verdict-eq2.true, c.verdict.ensures)) c.taken.ensures c.mask.ensures
+pub returns-in-Some : goal.returns-in-Some
+returns-in-Some c = rw c.in-Some.ensures.1 (leaves-stopped c.in-Some.ensures.0)
 
-pub returns-then-time-latest : goal.returns-then-time-latest
-returns-then-time-latest c = leaves-clock c.verdict.ensures c.if-verdict-eq2.false (takes-early (omega (arith, c.if-time-latest.true, c.latest.ensures)))
-
-pub returns-then-before : goal.returns-then-before
-returns-then-before c =
-    leaves-clock c.verdict.ensures c.if-verdict-eq2.false
-    (takes-full (omega (arith, c.if-time-latest.false, c.latest.ensures)) (omega (arith, c.if-before.true, c.taken-before.ensures)))
+pub returns-in_err-k : goal.returns-in_err-k
+returns-in_err-k c =
+    let p = err_from_is_err_and c.from_residual.result c.from_residual.ensures.1 in
+    rw (p.1, p.2) (leaves-clock c.in_default.ensures (takes-refused _ c.in_err-k.ensures))
 
 pub returns : goal.returns
-returns c =
-    leaves-clock c.verdict.ensures c.if-verdict-eq2.false
-    (takes-judged (omega (arith, c.if-time-latest.false, c.latest.ensures))
-    (omega (arith, c.if-before.false, c.taken-before.ensures, c.taken-before.type_inv)) c.mask-opens.ensures c.dues-dues.ensures
-    (omega (arith, c.taken-before.ensures)) (c.held-p.ensures 0) c.judged.ensures)
+returns c = leaves-clock c.in_default.ensures (takes-judged c.in_ok-k.ensures c.mask-opens.ensures c.dues-dues.ensures (c.held-p.ensures 0) c.judged.ensures)
