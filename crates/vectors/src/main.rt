@@ -183,12 +183,7 @@ fn run_plays(
 }
 
 // Runs the plays of `total` sheets, or of as many as are there.
-fn run_sheets(
-    rt: &impl Print,
-    file: &mut File,
-    total: u32,
-    tally: &mut Tally,
-) -> io::Result<()> {
+fn run_sheets(rt: &impl Print, file: &mut File, total: u32, tally: &mut Tally) -> io::Result<()> {
     let mut sheet = [0u8; SHEET_ROOM];
     for number in 0..total {
         let Some(sheet) = read_part(file, &mut sheet) else {
