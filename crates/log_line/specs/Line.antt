@@ -2,7 +2,7 @@
 -- Assumes nothing.
 use Rattle.std.specs.Prelude.{◌≡◌, cond, List, [], ◌∷◌, ◌++◌, ℕ, zero, suc, ◌+◌, ◌/◌, ◌%◌, ◌≤◌, ltb, length, drop}
 use Rattle.runner.specs.declared.Outcome.{Outcome}
-use Rattle.log_line.specs.declared.Line.{Line}
+use Rattle.log_line.specs.declared.text.Line.{Line}
 
 -- the characters
 abbrev pub digit : ℕ → ℕ
@@ -27,17 +27,21 @@ numeral x = decimal 10 x
 abbrev pub line_of : Outcome → List ℕ
 line_of o = numeral o.answer ++ (space ∷ (numeral o.refusal ++ (space ∷ (numeral o.mask ++ (space ∷ (numeral o.taken ++ (space ∷ (numeral o.place ++ (newline ∷ [])))))))))
 
+-- what is written of a line
+abbrev pub text : Line → List ℕ
+text l = drop l.start l.bytes
+
 -- the line stands at the end of a buffer of 55 bytes
 pub record Made (o : Outcome) (r : Line) : Type 0 where
   pub long : length r.bytes ≡ 55
   pub inside : r.start ≤ 55
-  pub line : drop r.start r.bytes ≡ line_of o
+  pub line : text r ≡ line_of o
 
 -- ---- how it is written: from the end of a buffer on
 
--- the characters stand before what stood from `end` on, and begin at `at`; they are at most n
-pub record Before (n : ℕ) (chars : List ℕ) (before : List ℕ) (end at : ℕ) (after : List ℕ) : Type 0 where
-  pub long : length after ≡ length before
-  pub inside : at ≤ end
-  pub few : end ≤ at + n
-  pub written : drop at after ≡ chars ++ drop end before
+-- the characters stand before what was written; they are at most n
+pub record Before (n : ℕ) (chars : List ℕ) (before after : Line) : Type 0 where
+  pub long : length after.bytes ≡ length before.bytes
+  pub inside : after.start ≤ before.start
+  pub few : before.start ≤ after.start + n
+  pub written : text after ≡ chars ++ text before

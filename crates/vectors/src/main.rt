@@ -7,10 +7,12 @@
 // reference/make.py makes the files, says their formats, and makes what must be printed.
 #![tactic(auto)]
 
-use cases::number::four;
-use cases::play::NUMBERS;
-use cases::tally::SLOTS;
-use cases::{END, play};
+use book::Book;
+use cases::answer::Answer;
+use cases::play::Play;
+use cases::read::{read_part, read_u16, read_u32};
+use cases::tally::Tally;
+use cases::{Case, play};
 use rule_player::Played;
 use sheet_writer::Written;
 use std::fs::File;
@@ -28,103 +30,66 @@ const PLAY_ROOM: usize = 2048;
 // What an output is filled with before a play: no name, so that no record leaves it as it is.
 const FILL: u8 = 165;
 
-// The host's call on the first n bytes of sheet and the first m of log. Where these are not there,
-// out is left as it is.
-fn call(sheet: &[u8], n: usize, log: &[u8], m: usize, budget: u32, out: &mut [u8; 12]) {
-    if n > sheet.len() {
-        return;
-    }
-    if m > log.len() {
-        return;
-    }
-    host::guard4_run(&sheet[..n], &log[..m], budget, out);
+fn book_of(sheet: &[u8]) -> Book {
+    let t = book::translate(sheet);
+    t.book
 }
 
-// The book is written as these bytes, which fill the buffer.
-fn fills(table: &Table, bytes: &[u8], buffer: &mut [u8]) -> bool {
-    let w = sheet_writer::write(table, buffer);
-    match w {
-        Written::Bytes(n) => {
-            if n != bytes.len() {
-                return false;
-            }
-            bytes == &buffer[..]
-        }
-        Written::TooShort => false,
+// ---- the book, written back
+
+// Writes the book, and answers how many bytes it took; `None` where the buffer is shorter.
+fn write(table: &Table, buffer: &mut [u8]) -> Option<usize> {
+    match sheet_writer::write(table, buffer) {
+        Written::Bytes(n) => Some(n),
+        Written::TooShort => None,
     }
 }
 
 // The book is written as these bytes, into a buffer of just their length.
 fn writes(table: &Table, bytes: &[u8]) -> bool {
     let mut buffer = [0u8; SHEET_ROOM];
-    let n = bytes.len();
-    if n > SHEET_ROOM {
+    let Some(buffer) = buffer.get_mut(..bytes.len()) else {
         return false;
-    }
-    fills(table, bytes, &mut buffer[..n])
+    };
+    write(table, buffer) == Some(bytes.len()) && bytes == &buffer[..]
 }
 
-// The book is refused a buffer of so many bytes, one fewer than it takes.
-fn too_short(table: &Table, n: usize) -> bool {
+// The book is refused a buffer of so many bytes.
+fn is_too_short(table: &Table, room: usize) -> bool {
     let mut buffer = [0u8; SHEET_ROOM];
-    if n > SHEET_ROOM {
-        return false;
-    }
-    let w = sheet_writer::write(table, &mut buffer[..n]);
-    match w {
-        Written::Bytes(_) => false,
-        Written::TooShort => true,
+    match buffer.get_mut(..room) {
+        Some(buffer) => write(table, buffer).is_none(),
+        None => false,
     }
 }
 
-// The book of the first n bytes of sheet is written back.
-fn written_back(sheet: &[u8], n: usize) -> bool {
-    if n > sheet.len() {
+// The sheet's book is written back, and refused a buffer that is one byte shorter.
+fn is_written_back(sheet: &[u8]) -> bool {
+    let Some((_, shorter)) = sheet.split_last() else {
         return false;
-    }
-    if n < 1 {
-        return false;
-    }
-    let t = book::translate(&sheet[..n]);
-    let b = t.book;
-    if too_short(&b.table, n - 1) {
-        return writes(&b.table, &sheet[..n]);
-    }
-    false
+    };
+    let b = book_of(sheet);
+    is_too_short(&b.table, shorter.len()) && writes(&b.table, sheet)
 }
 
-// Reads the next case and runs it, and answers whether it was there.
+// ---- the cases
+
 fn run_case(
     rt: &impl Print,
-    file: &mut File,
     number: u32,
-    shown: u32,
-    dues: &mut [u32; SLOTS],
-    mets: &mut [u32; SLOTS],
-) -> io::Result<bool> {
-    let mut sheet = [0u8; SHEET_ROOM];
-    let n = cases::read_length(file);
-    if !cases::read_part(file, &mut sheet, n) {
-        return Ok(false);
-    }
-    let mut log = [0u8; LOG_ROOM];
-    let m = cases::read_length(file);
-    if !cases::read_part(file, &mut log, m) {
-        return Ok(false);
-    }
-    let mut end = [0u8; END];
-    if !cases::read_part(file, &mut end, END) {
-        return Ok(false);
-    }
+    is_shown: bool,
+    case: &Case,
+    tally: &mut Tally,
+) -> io::Result<()> {
     let mut out = [255u8; 12];
-    call(&sheet, n, &log, m, cases::budget(&end), &mut out);
-    if number < shown {
-        cases::print_answer(rt, &out)?;
-        cases::print(rt, b"\n")?;
+    host::guard4_run(case.sheet, case.log, case.budget, &mut out);
+    let out = Answer::from(out);
+    if is_shown {
+        println!(rt; "{out}")?;
     }
-    cases::compare(rt, number, &out, &end, dues, mets)?;
-    cases::count_written(written_back(&sheet, n), &end, dues, mets);
-    Ok(true)
+    cases::compare(rt, number, &out, case, tally)?;
+    cases::count_written(is_written_back(case.sheet), case, tally);
+    Ok(())
 }
 
 // Runs `total` cases, or as many as are there.
@@ -133,31 +98,30 @@ fn run_cases(
     file: &mut File,
     total: u32,
     shown: u32,
-    dues: &mut [u32; SLOTS],
-    mets: &mut [u32; SLOTS],
+    tally: &mut Tally,
 ) -> io::Result<()> {
-    let mut number: u32 = 0;
-    while number < total && run_case(rt, file, number, shown, dues, mets)? {
-        number += 1;
+    let mut sheet = [0u8; SHEET_ROOM];
+    let mut log = [0u8; LOG_ROOM];
+    for number in 0..total {
+        let Some(case) = Case::read(file, &mut sheet, &mut log) else {
+            break;
+        };
+        run_case(rt, number, number < shown, &case, tally)?;
     }
     Ok(())
 }
 
 // Reads how many cases there are and how many of them are to be shown, and runs them.
-fn run_file(
-    rt: &impl Print,
-    file: &mut File,
-    dues: &mut [u32; SLOTS],
-    mets: &mut [u32; SLOTS],
-) -> io::Result<()> {
-    let mut head = [0u8; 8];
-    if cases::read_part(file, &mut head, 8) {
-        let total = four(head[0], head[1], head[2], head[3]);
-        let shown = four(head[4], head[5], head[6], head[7]);
-        run_cases(rt, file, total, shown, dues, mets)?;
+fn run_file(rt: &impl Print, file: &mut File, tally: &mut Tally) -> io::Result<()> {
+    if let Some(total) = read_u32(file)
+        && let Some(shown) = read_u32(file)
+    {
+        run_cases(rt, file, total, shown, tally)?;
     }
     Ok(())
 }
+
+// ---- the plays
 
 // The number of records, or 2^64 less 17 or 18.
 fn answer_of(p: Played) -> u64 {
@@ -168,63 +132,34 @@ fn answer_of(p: Played) -> u64 {
     }
 }
 
-// Plays a round by the first m bytes of choice, into the first n of out. Where these are not there, the
-// answer is none that can be due.
-fn play_round(
-    table: &Table,
-    numbers: &[u8; NUMBERS],
-    choice: &[u8],
-    m: usize,
-    out: &mut [u8],
-    n: usize,
-) -> u64 {
-    if m > choice.len() {
-        return u64::MAX;
+// Plays the round into as much of out as is its room. Where out is shorter, the answer is none that can be due.
+fn play_round(table: &Table, p: &Play, out: &mut [u8]) -> u64 {
+    match out.get_mut(..p.room) {
+        Some(out) => answer_of(rule_player::play(table, p.rule, p.time, p.choice, out)),
+        None => u64::MAX,
     }
-    if n > out.len() {
-        return u64::MAX;
-    }
-    let p = rule_player::play(
-        table,
-        play::rule(numbers),
-        play::time(numbers),
-        &choice[..m],
-        &mut out[..n],
-    );
-    answer_of(p)
 }
 
-// Reads the next play and runs it, and answers whether it was there. The records due are read into a
-// buffer that is filled as the output is: both must be alike to the end.
+// The output begins with the records due, and is as it was from there on.
+fn is_alike(out: &[u8], records: &[u8]) -> bool {
+    match out.strip_prefix(records) {
+        Some(rest) => rest.iter().all(|b| *b == FILL),
+        None => false,
+    }
+}
+
 fn run_play(
     rt: &impl Print,
-    file: &mut File,
     sheet: u32,
-    number: usize,
+    number: u16,
     table: &Table,
-    dues: &mut [u32; SLOTS],
-    mets: &mut [u32; SLOTS],
-) -> io::Result<bool> {
-    let mut choice = [0u8; PLAY_ROOM];
-    let m = cases::read_length(file);
-    if !cases::read_part(file, &mut choice, m) {
-        return Ok(false);
-    }
-    let n = cases::read_length(file);
-    let mut numbers = [0u8; NUMBERS];
-    if !cases::read_part(file, &mut numbers, NUMBERS) {
-        return Ok(false);
-    }
-    let mut due = [FILL; PLAY_ROOM];
-    let k = cases::read_length(file);
-    if !cases::read_part(file, &mut due, k) {
-        return Ok(false);
-    }
+    p: &Play,
+    tally: &mut Tally,
+) -> io::Result<()> {
     let mut out = [FILL; PLAY_ROOM];
-    let said = play_round(table, &numbers, &choice, m, &mut out, n);
-    let alike = out == due;
-    play::compare(rt, sheet, number, said, alike, &numbers, dues, mets)?;
-    Ok(true)
+    let said = play_round(table, p, &mut out);
+    let alike = is_alike(&out, p.records);
+    play::compare(rt, sheet, number, said, alike, p.due, tally)
 }
 
 // Runs `total` plays of a sheet, or as many as are there.
@@ -232,94 +167,54 @@ fn run_plays(
     rt: &impl Print,
     file: &mut File,
     sheet: u32,
-    total: usize,
+    total: u16,
     table: &Table,
-    dues: &mut [u32; SLOTS],
-    mets: &mut [u32; SLOTS],
+    tally: &mut Tally,
 ) -> io::Result<()> {
-    let mut number: usize = 0;
-    while number < total && run_play(rt, file, sheet, number, table, dues, mets)? {
-        number += 1;
+    let mut choice = [0u8; PLAY_ROOM];
+    let mut records = [0u8; PLAY_ROOM];
+    for number in 0..total {
+        let Some(p) = Play::read(file, &mut choice, &mut records) else {
+            break;
+        };
+        run_play(rt, sheet, number, table, &p, tally)?;
     }
     Ok(())
 }
 
-// Runs the plays of the first n bytes of sheet.
-fn play_sheet(
-    rt: &impl Print,
-    file: &mut File,
-    number: u32,
-    sheet: &[u8],
-    n: usize,
-    dues: &mut [u32; SLOTS],
-    mets: &mut [u32; SLOTS],
-) -> io::Result<()> {
-    if n > sheet.len() {
-        return Ok(());
-    }
-    let t = book::translate(&sheet[..n]);
-    let b = t.book;
-    let total = cases::read_length(file);
-    run_plays(rt, file, number, total, &b.table, dues, mets)
-}
-
-// Reads the next sheet and runs its plays, and answers whether it was there.
-fn run_sheet(
-    rt: &impl Print,
-    file: &mut File,
-    number: u32,
-    dues: &mut [u32; SLOTS],
-    mets: &mut [u32; SLOTS],
-) -> io::Result<bool> {
-    let mut sheet = [0u8; SHEET_ROOM];
-    let n = cases::read_length(file);
-    if !cases::read_part(file, &mut sheet, n) {
-        return Ok(false);
-    }
-    play_sheet(rt, file, number, &sheet, n, dues, mets)?;
-    Ok(true)
-}
-
 // Runs the plays of `total` sheets, or of as many as are there.
-fn run_sheets(
-    rt: &impl Print,
-    file: &mut File,
-    total: u32,
-    dues: &mut [u32; SLOTS],
-    mets: &mut [u32; SLOTS],
-) -> io::Result<()> {
-    let mut number: u32 = 0;
-    while number < total && run_sheet(rt, file, number, dues, mets)? {
-        number += 1;
+fn run_sheets(rt: &impl Print, file: &mut File, total: u32, tally: &mut Tally) -> io::Result<()> {
+    let mut sheet = [0u8; SHEET_ROOM];
+    for number in 0..total {
+        let Some(sheet) = read_part(file, &mut sheet) else {
+            break;
+        };
+        let Some(plays) = read_u16(file) else {
+            break;
+        };
+        let b = book_of(sheet);
+        run_plays(rt, file, number, plays, &b.table, tally)?;
     }
     Ok(())
 }
 
 // Reads how many sheets there are, and runs their plays.
-fn run_plays_file(
-    rt: &impl Print,
-    file: &mut File,
-    dues: &mut [u32; SLOTS],
-    mets: &mut [u32; SLOTS],
-) -> io::Result<()> {
-    let mut head = [0u8; 4];
-    if cases::read_part(file, &mut head, 4) {
-        let total = four(head[0], head[1], head[2], head[3]);
-        run_sheets(rt, file, total, dues, mets)?;
+fn run_plays_file(rt: &impl Print, file: &mut File, tally: &mut Tally) -> io::Result<()> {
+    if let Some(total) = read_u32(file) {
+        run_sheets(rt, file, total, tally)?;
     }
     Ok(())
 }
 
 fn main(rt: HostRuntime) -> io::Result<()> {
-    let mut dues = [0u32; SLOTS];
-    let mut mets = [0u32; SLOTS];
+    let mut tally = Tally::default();
     match File::open(&rt, "cases.bin") {
-        Ok(mut file) => run_file(&rt, &mut file, &mut dues, &mut mets)?,
+        Ok(mut file) => run_file(&rt, &mut file, &mut tally)?,
         Err(e) => return eprintln!(rt; "cases.bin: {e}"),
     }
     match File::open(&rt, "plays.bin") {
-        Ok(mut file) => run_plays_file(&rt, &mut file, &mut dues, &mut mets)?,
+        Ok(mut file) => run_plays_file(&rt, &mut file, &mut tally)?,
         Err(e) => return eprintln!(rt; "plays.bin: {e}"),
     }
-    cases::print_tally(&rt, &dues, &mets)
+    tally.print(&rt)
 }
