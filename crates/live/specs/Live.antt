@@ -1,7 +1,7 @@
 -- A live session of a C host (document 01, "Observing": "The host's session keeps one monitor, lent to the guard and changed in place"): the calls, in terms of the judge.
 -- An answer is one number (`replies/specs/Replies`).
 -- Assumes nothing.
-use Rattle.std.specs.Prelude.{◌≡◌, List, [], ◌∷◌, ◌++◌, map, ℕ, ◌-◌, ◌^◌, ◌≤◌, ◌<◌, length, take, drop}
+use Rattle.std.specs.Prelude.{◌≡◌, Result, List, [], ◌∷◌, ◌++◌, map, ℕ, ◌-◌, ◌^◌, ◌≤◌, ◌<◌, length, take, drop}
 use Rattle.pattern.specs.Meaning.{Rule}
 use Rattle.pattern.specs.Judge.{Oracle, Right, nothing, judge_answers, judge_keeps}
 use Rattle.pattern.specs.Judge as J
@@ -12,15 +12,14 @@ use Rattle.sheet.specs.Answers.{read_values}
 use Rattle.book.specs.Books.{book_of}
 use Rattle.words.specs.Words.{held_by}
 use Rattle.answers.specs.declared.Observation.{Observation}
-use Rattle.answers.specs.declared.Answer.{Answer}
 use Rattle.replies.specs.Replies.{word_of}
-use Rattle.sheet_writer.specs.declared.Written.{Written}
+use Rattle.sheet_writer.specs.declared.TooShort.{TooShort}
 use Rattle.sheet_writer.specs.Writing.{answer_of, Writes}
 use Rattle.store.specs.Answers as S
-use Rattle.rule_player.specs.declared.Played.{Played}
+use Rattle.rule_player.specs.declared.Refusal.{Refusal}
 use Rattle.rule_player.specs.Playing.{playing_of, chosen_of, Plays}
 use Rattle.rule_player.specs.Playing as P
-use Rattle.monitor.specs.Promise.{seen, values_of, verdict_in, in_memory, Observes, Freshes}
+use Rattle.monitor.specs.Promise.{Answer, seen, values_of, verdict_in, in_memory, Observes, Freshes}
 
 -- it rises with each call that is added or changed, as opening is by the sheets that it reads, and with the memory that a host lends
 abbrev pub library_version : ℕ
@@ -71,13 +70,16 @@ pub record LiveAgreement (S : Sheet) (os : List Observation) (rs last : List ℕ
 
 -- ---- writing: so many bytes, or so many records; or a refusal as its number below 0, in 64 bits
 
+abbrev pub below_0 : ℕ → ℕ
+below_0 number = 2 ^ 64 - number
+
 abbrev pub number_of : S.Answer → ℕ
 number_of (S.written n) = n
-number_of (S.refused number) = 2 ^ 64 - number
+number_of (S.refused number) = below_0 number
 
 -- the number of an answer such as the writer promises
 pub record Stores (table before : List ℕ) (r : ℕ) (after : List ℕ) : Type 0 where
-  pub answer : Written
+  pub answer : Result ℕ TooShort
   pub number : r ≡ number_of (answer_of answer)
   pub writes : Writes table before answer after
 
@@ -91,7 +93,7 @@ pub record StoredBack (sheet : List ℕ) (opened : Arrays) (before : List ℕ) (
 -- ---- playing: the number of an answer such as the player promises
 
 pub record PlaysInto (table : List ℕ) (rule time : ℕ) (choice before : List ℕ) (r : ℕ) (after : List ℕ) : Type 0 where
-  pub answer : Played
+  pub answer : Result ℕ Refusal
   pub number : r ≡ number_of (P.answer_of answer)
   pub plays : Plays table rule time choice before answer after
 

@@ -10,10 +10,10 @@ ghost use Rattle.answers.specs.declared.Observation.TheVariants.{Event, Clock};
 ghost use Rattle.monitor.specs.Promise.{in_memory, Freshes};
 ghost use Rattle.sheet_writer.specs.Writing as writing;
 ghost use Rattle.rule_player.specs.Playing as playing;
-ghost use Rattle.live.specs.Live.{library_version, Opens, Notes, verdict_is, number_of, Stores, PlaysInto};
+ghost use Rattle.live.specs.Live.{library_version, Opens, Notes, verdict_is, below_0, number_of, Stores, PlaysInto};
 
-use rule_player::Played;
-use sheet_writer::Written;
+use rule_player::Refusal;
+use sheet_writer::TooShort;
 use tables::Table;
 use words::Memory;
 
@@ -22,21 +22,13 @@ use words::Memory;
 pub extern "C" fn guard4_open(sheet: &[u8], book: &mut Table, monitor: &mut Memory) -> u64
     ensures { Opens sheet.now (record { table = book.old; monitor = monitor.old }) result (record { table = book.new; monitor = monitor.new }) }
 {
-    let t = book::translate(sheet);
-    let answer = t.answer;
-    match answer {
-        sheet::Answer::Accepted => {
-            let b = t.book;
-            let table = b.table;
-            let first = monitor::fresh();
-            *book = table;
-            *monitor = first;
+    match book::translate(sheet) {
+        Ok(opened) => {
+            *book = opened.table;
+            *monitor = monitor::fresh();
             0
         }
-        sheet::Answer::Refused { number, place } => {
-            let at = place as u32;
-            replies::refused_word(number, at)
-        }
+        Err(refused) => replies::refused_word(refused.fault.number(), refused.place as u32),
     }
 }
 
@@ -45,8 +37,7 @@ pub extern "C" fn guard4_open(sheet: &[u8], book: &mut Table, monitor: &mut Memo
 pub extern "C" fn guard4_start(monitor: &mut Memory)
     ensures { Freshes in_memory monitor.new }
 {
-    let first = monitor::fresh();
-    *monitor = first;
+    *monitor = monitor::fresh();
 }
 
 // One event, under the book whose table is lent. A name of 64 or more, of whatever width, is one that the judge refuses.
@@ -54,8 +45,7 @@ pub extern "C" fn guard4_start(monitor: &mut Memory)
 pub extern "C" fn guard4_event(book: &Table, monitor: &mut Memory, name: u32, time: u32) -> u64
     ensures { Notes book.now monitor.old (Event name time) result monitor.new }
 {
-    let a = monitor::note(book, monitor, name, time);
-    replies::answer_word(a)
+    replies::answer_word(monitor::note(book, monitor, name, time))
 }
 
 // One clock reading.
@@ -63,8 +53,7 @@ pub extern "C" fn guard4_event(book: &Table, monitor: &mut Memory, name: u32, ti
 pub extern "C" fn guard4_clock(book: &Table, monitor: &mut Memory, time: u32) -> u64
     ensures { Notes book.now monitor.old (Clock time) result monitor.new }
 {
-    let a = monitor::tick(book, monitor, time);
-    replies::answer_word(a)
+    replies::answer_word(monitor::tick(book, monitor, time))
 }
 
 // The verdict that the monitor holds.
@@ -72,7 +61,7 @@ pub extern "C" fn guard4_clock(book: &Table, monitor: &mut Memory, time: u32) ->
 pub extern "C" fn guard4_verdict(monitor: &Memory) -> u64
     ensures { verdict_is result monitor.now }
 {
-    replies::answer_word(monitor::verdict(monitor))
+    replies::verdict_word(monitor::verdict(monitor))
 }
 
 // The number of observations that the monitor has taken.
@@ -85,13 +74,21 @@ pub extern "C" fn guard4_taken(monitor: &Memory) -> u32
 
 // ---- writing
 
-// The answer of the writer as one number.
-fn written_word(w: Written) -> u64
-    ensures { result ≡ number_of (writing.answer_of w) }
+// A refusal as its number below 0, in 64 bits.
+fn below_0(number: u8) -> u64
+    requires { 0 < number }
+    ensures { result ≡ below_0 number }
 {
-    match w {
-        Written::Bytes(n) => n as u64,
-        Written::TooShort => 0xFFFF_FFFF_FFFF_FFF0,
+    u64::MAX - u64::from(number) + 1
+}
+
+// The answer of the writer as one number.
+fn written_word(answer: Result<usize, TooShort>) -> u64
+    ensures { result ≡ number_of (writing.answer_of answer) }
+{
+    match answer {
+        Ok(bytes) => bytes as u64,
+        Err(TooShort) => below_0(16),
     }
 }
 
@@ -100,20 +97,19 @@ fn written_word(w: Written) -> u64
 pub extern "C" fn guard4_write(book: &Table, buffer: &mut [u8]) -> u64
     ensures { Stores book.now buffer.old result buffer.new }
 {
-    let w = sheet_writer::write(book, buffer);
-    written_word(w)
+    written_word(sheet_writer::write(book, buffer))
 }
 
 // ---- playing
 
 // The answer of the player as one number.
-fn played_word(p: Played) -> u64
-    ensures { result ≡ number_of (playing.answer_of p) }
+fn played_word(answer: Result<usize, Refusal>) -> u64
+    ensures { result ≡ number_of (playing.answer_of answer) }
 {
-    match p {
-        Played::Records(n) => n as u64,
-        Played::NoRule => 0xFFFF_FFFF_FFFF_FFEF,
-        Played::TooLong => 0xFFFF_FFFF_FFFF_FFEE,
+    match answer {
+        Ok(records) => records as u64,
+        Err(Refusal::NoRule) => below_0(17),
+        Err(Refusal::TooLong) => below_0(18),
     }
 }
 
@@ -128,8 +124,7 @@ pub extern "C" fn guard4_play(
 ) -> u64
     ensures { PlaysInto book.now rule time choice.now out.old result out.new }
 {
-    let p = rule_player::play(book, rule, time, choice, out);
-    played_word(p)
+    played_word(rule_player::play(book, rule, time, choice, out))
 }
 
 // ---- versions
