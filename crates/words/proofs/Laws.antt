@@ -12,7 +12,8 @@ use Rattle.layout.specs.Layout.{le, each}
 use Rattle.layout.proofs.Fields.{number_of}
 use Rattle.rule_state.specs.declared.RuleState.{RuleState}
 use Rattle.words.specs.Upto.{map_n, map_n-more, length-map_n}
-use Rattle.words.specs.Words.{rule_offset, memory_length, taken_at, latest_at, verdict_at, mask_at, dues_at, numbers_from, state_in, no_state, rules_in, Held, held_by, Fits, Holds, Clean, with_rules, nothing_taken, Stores}
+use Rattle.words.specs.Words.{rule_offset, memory_length, taken_at, latest_at, verdict_at, mask_at, dues_at, numbers_from, state_in, no_state, rules_in}
+use Rattle.words.specs.Words.{Held, held_by, Fits, Holds, Clean, with_rules, nothing_taken, Stores}
 use Rattle.words.proofs.Places.{map_n-within, set-map_n, get_d-map_n}
 use Rattle.words.proofs.Bytes.{sets-sets, get_d-sets-out, drop-sets, number-alike, numbers-alike, numbers_of_lem, each-length}
 
