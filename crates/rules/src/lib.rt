@@ -21,8 +21,8 @@ fn marks(standing: Standing) -> u64
 {
     match standing {
         Standing::Whole => 0,
-        Standing::Open => 65536,
-        Standing::Due => 4295032832,
+        Standing::Open => 1 << 16,
+        Standing::Due => 1 << 16 | 1 << 32,
         Standing::Broken => 1,
     }
 }
@@ -35,7 +35,7 @@ fn marked(all: u64, r: usize, standing: Standing) -> u64
     all | marks(standing) << r
 }
 
-// ---- one rule
+// ---- one rule: its number is below 16, as `masks::each` gives it, and is no type of its own, which every table and shift would take apart again
 
 // Rule r, which has the name, steps; how it then stands.
 fn stepped(table: &Table, m: &mut Memory, r: usize, name: u8, time: u32) -> Standing
@@ -60,7 +60,7 @@ fn waited(table: &Table, m: &Memory, r: usize, time: u32) -> Standing
     }
 }
 
-// ---- the rules of a mask, one by one
+// ---- the rules of a mask, one by one: two loops and not one over a closure, whose contract would have to say what each call leaves of the memory
 
 // Each rule is held to its deadline.
 fn all_waited(table: &Table, m: &Memory, who: u16, time: u32) -> u64

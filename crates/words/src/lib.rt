@@ -188,7 +188,7 @@ pub fn dues(m: &Memory) -> u16
     get16(m, DUES)
 }
 
-// All but the rules' states.
+// All but the rules' states. Five numbers, and no struct: those who call it have them apart, and nobody passes them on together.
 pub fn settle(m: &mut Memory, taken: u32, latest: u32, verdict: u8, mask: u16, dues: u16)
     ensures { (k : Held) → Holds m.old k → Clean m.new (record { rules = k.rules; taken = taken; latest = latest; verdict = verdict; mask = mask; dues = dues }) }
 {
