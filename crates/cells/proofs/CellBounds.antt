@@ -1,21 +1,13 @@
 -- The fields of a cell are small, whatever the words: each fits its place in the number.
 -- Assumes nothing.
-use mathlib.Core.Path.{◌≡◌, refl}
 use mathlib.Core.Bool.{Bool, true, false, cond}
 use Prim.Native.Nat.{ℕ, ◌<◌}
 use native.Mathlib.Omega.{arith}
 use lib.Dec.{eqb}
-use mir.Val.{bool_byte}
-use Rattle.bits.specs.Bits.{flag}
 use Rattle.bits.proofs.BitLaws.{flag_small}
 use Rattle.tables.specs.Words.{round_in}
 use Rattle.tables.proofs.Bounds.{round-small}
 use Rattle.cells.specs.Making.{before_from, last_from, frees_from, order_from, fragment_from, in_p_from, in_q_from, ends_p_from, clock_from, shared_cell}
-
--- what `u64::from` makes of an answer
-pub from-flag : (b : Bool) → bool_byte b ≡ flag b
-from-flag true = refl
-from-flag false = refl
 
 -- either of two small numbers is small
 pub either : (b : Bool) {k x y : ℕ} → x < k → y < k → cond b x y < k

@@ -20,6 +20,7 @@ fn preceding(head: u64, f: usize) -> usize
 }
 
 // Its number, the one that it follows, whether it is the last, and whether its event releases the rule.
+#[tactic(auto, unfolding(crate::specs::Making::order_from))]
 fn order(head: u64, f: usize) -> u64
     requires { (f < round_in head) × (f < 16) }
     ensures { (result ≡ order_from head f) × (result < 1024) }
@@ -35,6 +36,7 @@ fn order(head: u64, f: usize) -> u64
 // ---- what the fragment says
 
 // Its count of ranges less one, and its join. One less than a count of 1 to 8 is that of 7 more, modulo 8, and so nothing is asked of the count.
+#[tactic(auto, using(tables::proofs::Bounds::count_small), unfolding(crate::specs::Making::fragment_from))]
 fn fragment(word: u16) -> u64
     ensures { (result ≡ fragment_from word) × (result < 256) }
 {
@@ -46,6 +48,7 @@ fn fragment(word: u16) -> u64
 // ---- what the clock says of fragment f
 
 // Whether it is in P, whether it is in Q, and whether it is the last of a P that a deadline follows.
+#[tactic(auto, unfolding(crate::specs::Making::clock_from))]
 fn clock(head: u64, f: usize) -> u64
     requires { f < 16 }
     ensures { (result ≡ clock_from head f) × (result < 8) }
@@ -69,6 +72,7 @@ pub fn shared(head: u64, word: u16, f: usize) -> u64
 }
 
 // With range i's own: its number, u and v.
+#[tactic(auto, unfolding(crate::specs::Making::cell_with))]
 pub fn cell_of(shared: u64, word: u64, i: usize) -> u64
     requires { (shared < 4194304) × (i < 8) }
     ensures { result ≡ cell_with shared word i }

@@ -51,10 +51,13 @@ pub eight-set : {A : Type 0} (x : List A) (i : ℕ) (new d a₀ a₁ a₂ a₃ a
     → a₄ ≡ cond (eqb i 4) new (get_or x 4 d) → a₅ ≡ cond (eqb i 5) new (get_or x 5 d) → a₆ ≡ cond (eqb i 6) new (get_or x 6 d) → a₇ ≡ cond (eqb i 7) new (get_or x 7 d)
     → (a₀ ∷ a₁ ∷ a₂ ∷ a₃ ∷ a₄ ∷ a₅ ∷ a₆ ∷ a₇ ∷ []) ≡ set x i new
 eight-set {A} x i new d a₀ a₁ a₂ a₃ a₄ a₅ a₆ a₇ l h₀ h₁ h₂ h₃ h₄ h₅ h₆ h₇ =
-    same-list d made (set x i new) (sym (length-set x i new ∙ l)) (λ k g. below-eight (λ (k : ℕ). get_or made k d ≡ cond (eqb i k) new (get_or x k d)) h₀ h₁ h₂ h₃ h₄ h₅ h₆ h₇ k g ∙ sym (set_at x i k new d (subst (λ (n : ℕ). k < n) (sym l) g)))
+    same-list d made (set x i new) (sym (length-set x i new ∙ l)) (λ k g. chosen k g ∙ sym (set_at x i k new d (subst (λ (n : ℕ). k < n) (sym l) g)))
   where
     made : List A
     made = a₀ ∷ a₁ ∷ a₂ ∷ a₃ ∷ a₄ ∷ a₅ ∷ a₆ ∷ a₇ ∷ []
+
+    chosen : (k : ℕ) → k < 8 → get_or made k d ≡ cond (eqb i k) new (get_or x k d)
+    chosen = below-eight (λ (k : ℕ). get_or made k d ≡ cond (eqb i k) new (get_or x k d)) h₀ h₁ h₂ h₃ h₄ h₅ h₆ h₇
 
 -- ---- bytes
 
@@ -178,16 +181,18 @@ module _ (x : List ℕ) (i s w : ℕ) (eight : length x ≡ 8) (bytes : AreBytes
   replaced-bytes = le_bytes_8 (set x i s) _ set-eight (set-bytes x i s bytes small) (replaced ∙ sym (from-le (set x i s) set-eight))
 
 -- eight choices, of which the one that is made raises a count
+abbrev raised_at : List ℕ → ℕ → ℕ → ℕ
+raised_at x i k = cond (eqb i k) (saturated (get_or x k 0 + 1)) (get_or x k 0)
+
 pub eight-raised : (x : List ℕ) (i a₀ a₁ a₂ a₃ a₄ a₅ a₆ a₇ : ℕ) → length x ≡ 8
-    → a₀ ≡ cond (eqb i 0) (saturated (get_or x 0 0 + 1)) (get_or x 0 0) → a₁ ≡ cond (eqb i 1) (saturated (get_or x 1 0 + 1)) (get_or x 1 0) → a₂ ≡ cond (eqb i 2) (saturated (get_or x 2 0 + 1)) (get_or x 2 0)
-    → a₃ ≡ cond (eqb i 3) (saturated (get_or x 3 0 + 1)) (get_or x 3 0) → a₄ ≡ cond (eqb i 4) (saturated (get_or x 4 0 + 1)) (get_or x 4 0) → a₅ ≡ cond (eqb i 5) (saturated (get_or x 5 0 + 1)) (get_or x 5 0)
-    → a₆ ≡ cond (eqb i 6) (saturated (get_or x 6 0 + 1)) (get_or x 6 0) → a₇ ≡ cond (eqb i 7) (saturated (get_or x 7 0 + 1)) (get_or x 7 0)
+    → a₀ ≡ raised_at x i 0 → a₁ ≡ raised_at x i 1 → a₂ ≡ raised_at x i 2 → a₃ ≡ raised_at x i 3
+    → a₄ ≡ raised_at x i 4 → a₅ ≡ raised_at x i 5 → a₆ ≡ raised_at x i 6 → a₇ ≡ raised_at x i 7
     → (a₀ ∷ a₁ ∷ a₂ ∷ a₃ ∷ a₄ ∷ a₅ ∷ a₆ ∷ a₇ ∷ []) ≡ set x i (saturated (get_or x i 0 + 1))
 eight-raised x i a₀ a₁ a₂ a₃ a₄ a₅ a₆ a₇ l h₀ h₁ h₂ h₃ h₄ h₅ h₆ h₇ =
     eight-set x i (saturated (get_or x i 0 + 1)) 0 a₀ a₁ a₂ a₃ a₄ a₅ a₆ a₇ l
     (h₀ ∙ own 0) (h₁ ∙ own 1) (h₂ ∙ own 2) (h₃ ∙ own 3) (h₄ ∙ own 4) (h₅ ∙ own 5) (h₆ ∙ own 6) (h₇ ∙ own 7)
   where
-    own : (k : ℕ) → cond (eqb i k) (saturated (get_or x k 0 + 1)) (get_or x k 0) ≡ cond (eqb i k) (saturated (get_or x i 0 + 1)) (get_or x k 0)
+    own : (k : ℕ) → raised_at x i k ≡ cond (eqb i k) (saturated (get_or x i 0 + 1)) (get_or x k 0)
     own k = look (eqb i k) refl
       where
         look : (b : Bool) → eqb i k ≡ b → cond b (saturated (get_or x k 0 + 1)) (get_or x k 0) ≡ cond b (saturated (get_or x i 0 + 1)) (get_or x k 0)

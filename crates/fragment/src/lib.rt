@@ -44,6 +44,7 @@ pub fn with_state(x: [u8; 8], i: u8, state: u8) -> [u8; 8]
     (word - (old << at) + (u64::from(state) << at)).to_le_bytes()
 }
 
+#[tactic(auto, unfolding(recogniser::specs::Counts::saturated))]
 fn raised_if(here: bool, count: u16) -> u16
     ensures { result ≡ cond here (saturated (count + 1)) count }
 {

@@ -75,6 +75,7 @@ pub fn put(set: u8, i: u8, on: bool) -> u8
 }
 
 // Range i is in the set of ranges.
+#[tactic(auto, unfolding(names::specs::Names::member))]
 pub fn holds(set: u8, i: u8) -> bool
     ensures { result ≡ member set (i % 8) }
 {

@@ -6,6 +6,7 @@ ghost use Rattle.std.specs.Prelude.{◌≡◌};
 ghost use Rattle.names.specs.Names.{member, with_name, TellsDisjoint};
 
 // Whether name n is in the set.
+#[tactic(auto, unfolding(crate::specs::Names::member))]
 pub fn has(set: u64, n: u8) -> bool
     ensures { result ≡ member set n }
 {
@@ -16,6 +17,7 @@ pub fn has(set: u64, n: u8) -> bool
 }
 
 // The set with name n; the same set if n is no name.
+#[tactic(auto, unfolding(crate::specs::Names::insert))]
 pub fn with(set: u64, n: u8) -> u64
     ensures { result ≡ with_name set n }
 {

@@ -2,29 +2,29 @@
 #![tactic(auto)]
 
 ghost use Rattle.words.specs.Words.{Clean};
-ghost use Rattle.opening.specs.Fresh.{fresh_held};
+ghost use Rattle.std.specs.Prelude.{◌≡◌};
+ghost use Rattle.opening.specs.Fresh.{fresh_state, fresh_held};
 
 use rule_state::RuleState;
 use words::Memory;
+
+// A rule to which nothing has come.
+fn fresh() -> RuleState
+    ensures { result ≡ fresh_state }
+{
+    RuleState {
+        states: [1, 0, 0, 0, 0, 0, 0, 0],
+        ..RuleState::default()
+    }
+}
 
 // A monitor that has taken nothing: to no rule has anything come.
 pub fn unstarted() -> Memory
     ensures { Clean result fresh_held }
 {
-    let st = RuleState {
-        fragment: 0,
-        current: 0,
-        states: [1u8, 0, 0, 0, 0, 0, 0, 0],
-        counts: [0u16; 8],
-        lacking: 0,
-        full: 0,
-        end: 0,
-    };
-    let mut m = [0u8; words::LENGTH];
-    let mut r = 0usize;
-    while r < 16 {
-        words::store(&mut m, r, st);
-        r = r + 1;
+    let mut m = [0; words::LENGTH];
+    for r in 0..16 {
+        words::store(&mut m, r, fresh());
     }
     m
 }

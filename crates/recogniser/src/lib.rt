@@ -33,7 +33,7 @@ pub const OTHER: u8 = 3;
 // The join of a fragment whose blocks stand in a row: "0 all".
 pub const ALL: u8 = 0;
 
-// One number where a condition holds, another where it does not.
+// One number where a condition holds, another where it does not: a function, so that both are there and the compiler selects.
 fn select(holds: bool, yes: u8, no: u8) -> u8
     ensures { result ≡ cond holds yes no }
 {

@@ -15,13 +15,14 @@ use words::Memory;
 
 // How a rule stands, as the lowest bits of three masks: of the rules that broke (bit 0), are open (16), and have a deadline that runs (32). Three masks in one word cost one shift and
 // one `or` for a rule, and one register.
+#[tactic(auto, unfolding(crate::specs::Pass::marks_of))]
 fn marks(standing: Standing) -> u64
     ensures { result ≡ marks_of standing }
 {
     match standing {
         Standing::Whole => 0,
-        Standing::Open => 65536,
-        Standing::Due => 4295032832,
+        Standing::Open => 1 << 16,
+        Standing::Due => 1 << 16 | 1 << 32,
         Standing::Broken => 1,
     }
 }
@@ -34,17 +35,15 @@ fn marked(all: u64, r: usize, standing: Standing) -> u64
     all | marks(standing) << r
 }
 
-// ---- one rule
+// ---- one rule: its number is below 16, as `masks::each` gives it, and is no type of its own, which every table and shift would take apart again
 
 // Rule r, which has the name, steps; how it then stands.
 fn stepped(table: &Table, m: &mut Memory, r: usize, name: u8, time: u32) -> Standing
     requires { r < 16 }
     ensures { (was : Held) → Holds m.old was → Steps (act_of table.now r (get_or was.rules r no_state) name time) r was result m.new }
 {
-    let was = words::load(m, r);
-    let s = step::act(table, r, was, name, time);
-    let st = s.state;
-    words::store(m, r, st);
+    let s = step::act(table, r, words::load(m, r), name, time);
+    words::store(m, r, s.state);
     s.standing
 }
 
@@ -55,22 +54,20 @@ fn waited(table: &Table, m: &Memory, r: usize, time: u32) -> Standing
 {
     let limit = tables::time(table[tables::HEADS + r]);
     if deadline::overdue(limit, words::end_of(m, r), time) {
-        return Standing::Broken;
+        Standing::Broken
+    } else {
+        Standing::Due
     }
-    Standing::Due
 }
 
-// ---- the rules of a mask, one by one
+// ---- the rules of a mask, one by one: two loops and not one over a closure, whose contract would have to say what each call leaves of the memory
 
 // Each rule is held to its deadline.
 fn all_waited(table: &Table, m: &Memory, who: u16, time: u32) -> u64
     ensures { Waits table.now who time (held_by m.now).rules result }
 {
-    let mut all = 0u64;
-    let mut todo = who;
-    while 0 < todo {
-        let r = masks::lowest(todo);
-        todo = masks::rest(todo);
+    let mut all = 0;
+    for r in masks::each(who) {
         all = marked(all, r, waited(table, m, r, time));
     }
     all
@@ -81,12 +78,8 @@ fn all_stepped(table: &Table, m: &mut Memory, noted: u64, who: u16, name: u8, ti
     ensures { (was : Held) → Holds m.old was → StepsAll table.now noted who name time was result m.new }
 {
     let mut all = noted;
-    let mut todo = who;
-    while 0 < todo {
-        let r = masks::lowest(todo);
-        todo = masks::rest(todo);
-        let k = stepped(table, m, r, name, time);
-        all = marked(all, r, k);
+    for r in masks::each(who) {
+        all = marked(all, r, stepped(table, m, r, name, time));
     }
     all
 }

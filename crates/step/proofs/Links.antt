@@ -126,7 +126,9 @@ module _ {table : List ℕ} {r : ℕ} {rule : Rule} (h : HoldsRule table r rule)
         gone = not_T (has rule S.fragment name) (λ t. away (sound.apart g S.fragment name hg w.inside here t))
 
         strange : (g ≡ following rule S.fragment → ⊥) → Erred rule after'
-        strange d = foreign-errs rule S ck refl (K.sane sound w) unfree E' gone (not_T (has rule (following rule S.fragment) name) (λ t. d (sound.apart g (following rule S.fragment) name hg (follow-inside sound S.fragment w.inside) here t)))
+        strange d =
+            foreign-errs rule S ck refl (K.sane sound w) unfree E' gone
+            (not_T (has rule (following rule S.fragment) name) (λ t. d (sound.apart g (following rule S.fragment) name hg (follow-inside sound S.fragment w.inside) here t)))
 
       late-errs' : T (after_p rule g && not (in_time rule.kind S.end time)) → Erred rule after'
       late-errs' t = look (eqb g S.fragment) refl (eqb g (following rule S.fragment)) refl
@@ -288,7 +290,8 @@ module _ {table : List ℕ} {r : ℕ} {rule : Rule} (h : HoldsRule table r rule)
             let z : g ≡ 0 = eqb-true g 0 q in
             let p : after_p rule g ≡ false = ap (after_p rule) z ∙ first-p in
             rw p
-            (subst (λ (x : M.RuleState). Linked rule time (step_of (cell_in table r name) st time (opens_by (cell_in table r name) st)) x) (sym (begins₀ z)) (begin-linked sound time hg hi e (cell-of g i name hg hi e) st (λ a. clash (sym p ∙ a))))
+            (subst (λ (x : M.RuleState). Linked rule time (step_of (cell_in table r name) st time (opens_by (cell_in table r name) st)) x) (sym (begins₀ z))
+            (begin-linked sound time hg hi e (cell-of g i name hg hi e) st (λ a. clash (sym p ∙ a))))
         look false q = strange-step (after_p rule g && not (in_time rule.kind st.end time)) (eqb-false g 0 q)
 
   -- ---- a rule that is released
@@ -309,7 +312,8 @@ module _ {table : List ℕ} {r : ℕ} {rule : Rule} (h : HoldsRule table r rule)
 
   -- ---- all of them
 
-  pub acts : (st : RuleState) (S : M.RuleState) → Shows rule st S → (name : ℕ) → T (is_in name (names_of rule)) → Linked rule time (act_of table r st name time) (step rule S (record { name = name; time = time }))
+  pub acts : (st : RuleState) (S : M.RuleState) → Shows rule st S → (name : ℕ) → T (is_in name (names_of rule))
+      → Linked rule time (act_of table r st name time) (step rule S (record { name = name; time = time }))
   acts st S (untouched z q) name m =
       let p = sound.named name m in
       subst (λ (x : M.RuleState). Linked rule time (act_of table r st name time) (step rule x (record { name = name; time = time }))) (sym q) (acts-fresh st z p.inside p.held p.is)
@@ -320,7 +324,11 @@ module _ {table : List ℕ} {r : ℕ} {rule : Rule} (h : HoldsRule table r rule)
 
 -- a rule to which nothing has come is at rest
 fresh-rests : {rule : Rule} → Sound rule → at_rest rule (fresh rule) ≡ true
-fresh-rests {rule} sound = is_true (at_rest rule (fresh rule)) (either_r (released rule (fresh rule)) (any_of (λ (y : Slot). is_unbegun y.state) (slots_of rule (fresh rule))) (any← (λ (y : Slot). is_unbegun y.state) (slots_of rule (fresh rule)) (slot (range_at rule 0 0) unbegun 0) (first_slot sound) tt))
+fresh-rests {rule} sound =
+    let unbegun' : Slot → Bool = λ y. is_unbegun y.state in
+    is_true (at_rest rule (fresh rule))
+    (either_r (released rule (fresh rule)) (any_of unbegun' (slots_of rule (fresh rule)))
+    (any← unbegun' (slots_of rule (fresh rule)) (slot (range_at rule 0 0) unbegun 0) (first_slot sound) tt))
 
 -- it has begun, and the end of P is the model's
 runs-end : {rule : Rule} → Sound rule → (st : RuleState) (S : M.RuleState) → Shows rule st S → running rule S ≡ true → st.end ≡ S.end
@@ -329,8 +337,11 @@ runs-end {rule} sound st S (freed rest free) e = let rests : at_rest rule S ≡ 
 runs-end sound st S (begun w) e = w.end
 
 -- so that it is held to the model's deadline
-pub held_to : {table : List ℕ} {r : ℕ} {rule : Rule} → HoldsRule table r rule → Sound rule → (st : RuleState) (S : M.RuleState) → Shows rule st S → running rule S ≡ true → (time : ℕ) → overdue_of (limit_of table r) st.end time ≡ not (in_time rule.kind S.end time)
-held_to {table} {r} {rule} h sound st S w e time = ap₂ (λ (t end : ℕ). ltb (end + t) time) h.limit (runs-end sound st S w e) ∙ look rule.kind (running-timed (is_timed rule.kind) (not (at_rest rule S) && (not (erred (slots_of rule S)) && pressed rule S)) e)
+pub held_to : {table : List ℕ} {r : ℕ} {rule : Rule} → HoldsRule table r rule → Sound rule → (st : RuleState) (S : M.RuleState) → Shows rule st S → running rule S ≡ true
+    → (time : ℕ) → overdue_of (limit_of table r) st.end time ≡ not (in_time rule.kind S.end time)
+held_to {table} {r} {rule} h sound st S w e time =
+    ap₂ (λ (t end : ℕ). ltb (end + t) time) h.limit (runs-end sound st S w e)
+    ∙ look rule.kind (running-timed (is_timed rule.kind) (not (at_rest rule S) && (not (erred (slots_of rule S)) && pressed rule S)) e)
   where
     running-timed : (a b : Bool) → (a && b) ≡ true → a ≡ true
     running-timed true b q = refl

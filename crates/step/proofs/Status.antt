@@ -19,7 +19,8 @@ always (repeated i) e end now = refl
 always (timed q t) e end now = clash (sym e)
 
 module _ (r : Rule) (st : RuleState) where
-  still : (k a e p : Bool) → is_timed r.kind ≡ k → at_rest r st ≡ a → erred (slots_of r st) ≡ e → pressed r st ≡ p → (k && (not a && (not e && p))) ≡ false → (now now' : ℕ) → status_at r st now ≡ status_at r st now'
+  still : (k a e p : Bool) → is_timed r.kind ≡ k → at_rest r st ≡ a → erred (slots_of r st) ≡ e → pressed r st ≡ p → (k && (not a && (not e && p))) ≡ false
+      → (now now' : ℕ) → status_at r st now ≡ status_at r st now'
   still k true e p qk qa qe qp h now now' = rw qa
   still k false true p qk qa qe qp h now now' = rw (qa, qe)
   still k false false false qk qa qe qp h now now' = rw (qa, qe, qp)
@@ -53,7 +54,8 @@ module _ (r : Rule) (some : 1 ≤ length r.p) (st : RuleState) where
       timing true = refl
       timing false = refl
 
-      look : (k : Bool) → is_timed r.kind ≡ k → (a : Bool) → at_rest r st ≡ a → (e : Bool) → erred (slots_of r st) ≡ e → (p : Bool) → pressed r st ≡ p → (k && (not a && (not e && p))) ≡ true → status_at r st now ≡ cond (in_time r.kind st.end now) open' broken
+      look : (k : Bool) → is_timed r.kind ≡ k → (a : Bool) → at_rest r st ≡ a → (e : Bool) → erred (slots_of r st) ≡ e → (p : Bool) → pressed r st ≡ p → (k && (not a && (not e && p))) ≡ true
+          → status_at r st now ≡ cond (in_time r.kind st.end now) open' broken
       look false qk a qa e qe p qp z = clash z
       look true qk true qa e qe p qp z = clash z
       look true qk false qa true qe p qp z = clash z

@@ -121,6 +121,7 @@ fn opened(cell: u64, st: RuleState) -> RuleState
     RuleState {
         fragment: tables::fragment_in(cell),
         states: fragment::waiting(cell),
+        counts: [0; 8],
         lacking,
         end: st.end,
         ..RuleState::default()

@@ -2,10 +2,10 @@
 -- Assumes nothing.
 use mathlib.Core.Path.{◌≡◌, refl}
 use mathlib.Core.Bool.{Bool, true, false, cond}
-use Prim.Native.Nat.{ℕ, ◌+◌, ◌≤◌, min}
+use Prim.Native.Nat.{ℕ, ◌+◌, ◌≤◌}
 use native.Mathlib.Omega.{arith}
 use lib.Dec.{ltb}
-use borrow.Author.Tests.{le-ltb, ltb-true, ltb-false}
+use borrow.Author.Tests.{le-ltb, ltb-false}
 use Rattle.bits.specs.Bits.{part}
 use Rattle.layout.specs.Faults.{by_kind}
 use Rattle.layout.specs.Layout.{most_ranges}
@@ -13,14 +13,6 @@ use Rattle.tables.specs.Words.{cap, kind_in, count_p_in, count_q_in, round_in, c
 
 pub cap-of : (most n : ℕ) → n ≤ most → cap most n ≡ n
 cap-of most n h = rw (le-ltb most n h)
-
--- std's word for it
-pub cap_is_min : (most n : ℕ) → min n most ≡ cap most n
-cap_is_min most n = go (ltb most n) refl
-  where
-    go : (b : Bool) → ltb most n ≡ b → min n most ≡ cond b most n
-    go true e = omega (arith, ltb-true most n e)
-    go false e = omega (arith, ltb-false most n e)
 
 pub cap-small : (most n : ℕ) → cap most n ≤ most
 cap-small most n = go (ltb most n) refl

@@ -1,5 +1,6 @@
 // What a number of a book's tables holds (document 01): a rule's eight bytes, a fragment's join and count of ranges, a range's name and bounds; and, in the table that observing looks up, a
 // rule's cells, its t, and the mask of the rules that hold a name.
+// A head, a word and a cell are numbers, and no types of their own: they lie as such in the table of a book, which C lends.
 #![tactic(auto)]
 
 ghost use Rattle.std.specs.Prelude.{◌≡◌, cond, eqb, ◌<◌};
@@ -46,6 +47,7 @@ pub fn few(n: usize) -> usize
 }
 
 // Fragments in the round.
+#[tactic(auto, unfolding(crate::specs::Words::round_in))]
 pub fn fragments_in_round(head: u64) -> u8
     ensures { result ≡ round_in head }
 {
@@ -72,6 +74,7 @@ pub fn join(word: u16) -> u8
     (word % 256) as u8
 }
 
+#[tactic(auto, unfolding(crate::specs::Words::count_in))]
 pub fn ranges_in(word: u16) -> u8
     ensures { result ≡ count_in word }
 {

@@ -1,11 +1,13 @@
 -- Bytes stored one after the other, and the numbers that are read from them: what was stored is read back, and what lies elsewhere stays. Assumes nothing.
 use mathlib.Core.Path.{◌≡◌, refl, sym, ap, ap₂, ◌∙◌}
 use mathlib.Core.List.{List, [], ◌∷◌, ◌++◌, append_assoc, append-nil}
-use Prim.Native.Nat.{ℕ, zero, suc, ◌+◌, ◌*◌, ◌/◌, ◌%◌, ◌^◌, ◌<◌, ◌≤◌}
-use native.Mathlib.Nat.{add-zero}
+use Prim.Native.Nat.{ℕ, zero, suc, ◌+◌, ◌-◌, ◌*◌, ◌/◌, ◌%◌, ◌^◌, ◌<◌, ◌≤◌}
+use native.Mathlib.Nat.{add-zero, div-div-eq-div-mul}
 use native.Mathlib.Omega.{arith}
 use lib.ListN.{length, get_or, take, drop, set, length-append}
-use lib.Seq.{sets, sets-eq, get_or-set_other, drop-drop, drop_at, length-take-le, take-suc, take_all}
+use lib.Seq.{sets, sets-eq, get_or-set_other, drop-drop, drop_at, length-take-le, take-suc, take_all, drop-cons, get_or-take, get_or-drop}
+use Rattle.std.specs.Int.{w16, w32, from_le_bytes, bytes_low_first}
+use borrow.Rule.Slice.PartMut.{put_mid, Post-is}
 use Rattle.layout.specs.Form.{number}
 use Rattle.layout.specs.Layout.{le, each}
 use Rattle.layout.proofs.Fields.{number_of, le-length}
@@ -28,6 +30,12 @@ module _ {A : Type 0} where
   -- from the run's first place on stands what was stored
   pub drop-sets : (vs l : List A) (i : ℕ) → i + length vs ≤ length l → drop i (sets l i vs) ≡ vs ++ drop (i + length vs) l
   drop-sets vs l i h = ap (drop i) (sets-eq vs l i h ∙ append_assoc (take i l) vs _) ∙ drop_at (take i l) _ i (length-take-le i l (omega arith))
+
+-- a part of a list written over is a run of stores
+pub put_mid-sets : (l : List ℕ) (i e : ℕ) {ys vs : List ℕ} → ys ≡ vs → i + length vs ≡ e → e ≤ length l → put_mid i (e - i) l ys ≡ sets l i vs
+put_mid-sets l i e {vs = vs} same ends h =
+    ap₂ (λ (ys zs : List ℕ). take i l ++ (ys ++ zs)) same (Post-is i e l (omega (arith, ends)) ∙ ap (λ (k : ℕ). drop k l) (sym ends))
+    ∙ sym (append_assoc (take i l) vs _) ∙ sym (sets-eq vs l i (omega (arith, ends, h)))
 
 -- ---- numbers
 
@@ -71,6 +79,36 @@ four s at =
     let third : at + 2 + 1 ≡ at + 3 = omega arith in
     rw (second, third) (omega arith)
 
+-- a byte of some that are read
+read-byte : (n at : ℕ) (s : List ℕ) (k : ℕ) → k < n → get_or (take n (drop at s)) k 0 ≡ get_or s (at + k) 0
+read-byte n at s k h = get_or-take n (drop at s) k 0 h ∙ get_or-drop at s k 0
+
+-- std's words for the number of two and of four bytes
+pub from-two : (s : List ℕ) (at : ℕ) → from_le_bytes w16 (take 2 (drop at s)) ≡ number s 2 at
+from-two s at =
+    omega (arith, two s at, read-byte 2 at s 0 (omega arith), read-byte 2 at s 1 (omega arith), ap (λ (k : ℕ). get_or s k 0) (add-zero at))
+
+pub from-four : (s : List ℕ) (at : ℕ) → from_le_bytes w32 (take 4 (drop at s)) ≡ number s 4 at
+from-four s at =
+    omega (
+      arith,
+      four s at,
+      read-byte 4 at s 0 (omega arith),
+      read-byte 4 at s 1 (omega arith),
+      read-byte 4 at s 2 (omega arith),
+      read-byte 4 at s 3 (omega arith),
+      ap (λ (k : ℕ). get_or s k 0) (add-zero at),
+    )
+
+-- numbers of one byte are the bytes
+pub bytes-from : (s : List ℕ) (n at : ℕ) → at + n ≤ length s → take n (drop at s) ≡ numbers_from s 1 n at
+bytes-from s zero at h = refl
+bytes-from s (suc n) at h =
+    let inside : at < length s = omega arith in
+    let next : suc at ≡ at + 1 = omega arith in
+    ap (take (suc n)) (drop-cons s at 0 inside)
+    ∙ ap₂ ◌∷◌ (sym (one s at)) (ap (λ (k : ℕ). take n (drop k s)) next ∙ bytes-from s n (at + 1) (omega arith))
+
 -- eight numbers
 pub eight : (s : List ℕ) (size at : ℕ) → numbers_from s size 8 at
     ≡ number s size at ∷ number s size (at + size) ∷ number s size (at + 2 * size) ∷ number s size (at + 3 * size) ∷ number s size (at + 4 * size) ∷ number s size (at + 5 * size)
@@ -83,12 +121,6 @@ eight s size at =
     let sixth : at + 5 * size + size ≡ at + 6 * size = omega arith in
     let seventh : at + 6 * size + size ≡ at + 7 * size = omega arith in
     rw (second, third, fourth, fifth, sixth, seventh)
-
-pub eight-bytes : (s : List ℕ) (at : ℕ) → numbers_from s 1 8 at
-    ≡ get_or s at 0 ∷ get_or s (at + 1) 0 ∷ get_or s (at + 2) 0 ∷ get_or s (at + 3) 0 ∷ get_or s (at + 4) 0 ∷ get_or s (at + 5) 0 ∷ get_or s (at + 6) 0 ∷ get_or s (at + 7) 0 ∷ []
-eight-bytes s at =
-    eight s 1 at
-    ∙ (λ i. one s at i ∷ one s (at + 1) i ∷ one s (at + 2) i ∷ one s (at + 3) i ∷ one s (at + 4) i ∷ one s (at + 5) i ∷ one s (at + 6) i ∷ one s (at + 7) i ∷ [])
 
 -- numbers are read off their bytes
 pub numbers_of_lem : (s : List ℕ) (size : ℕ) (xs : List ℕ) (at : ℕ) (rest : List ℕ) → ((i : ℕ) → get_or xs i 0 < 256 ^ size) → drop at s ≡ each (le size) xs ++ rest
@@ -105,21 +137,20 @@ each-length size (x ∷ xs) = length-append (le size x) (each (le size) xs) ∙ 
 
 -- ---- a number's bytes, stored one after the other
 
-pub stored-two : (l : List ℕ) (at x : ℕ) → x < 65536 → set (set l at (x % 256)) (at + 1) (x / 256) ≡ sets l at (le 2 x)
-stored-two l at x h =
-    let first : at + 1 ≡ suc at = omega arith in
-    let high : x / 256 ≡ x / 256 % 256 = omega arith in
-    ap₂ (λ (i b : ℕ). set (set l at (x % 256)) i b) first high
+-- std's words for the bytes of a number: byte i + 1 is byte i of the number without its lowest byte
+low-shifted : (i n x : ℕ) → bytes_low_first (suc i) n x ≡ bytes_low_first i n (x / 256)
+low-shifted i zero x = refl
+low-shifted zero (suc n) x = ap₂ ◌∷◌ refl (low-shifted 1 n x)
+low-shifted (suc i) (suc n) x =
+    let e : 256 ^ suc (suc i) ≡ 256 * 256 ^ suc i = omega arith in
+    ap₂ (λ (d : ℕ) (ds : List ℕ). d % 256 ∷ ds) (ap (x /◌) e ∙ sym (div-div-eq-div-mul x 256 (256 ^ suc i))) (low-shifted (suc (suc i)) n x)
 
-pub stored-four : (l : List ℕ) (at x : ℕ) → x < 4294967296
-    → set (set (set (set l at (x % 256)) (at + 1) (x / 256 % 256)) (at + 2) (x / 65536 % 256)) (at + 3) (x / 16777216) ≡ sets l at (le 4 x)
-stored-four l at x h =
-    let first : at + 1 ≡ suc at = omega arith in
-    let second : at + 2 ≡ suc (suc at) = omega arith in
-    let third : at + 3 ≡ suc (suc (suc at)) = omega arith in
-    let b : x / 65536 % 256 ≡ x / 256 / 256 % 256 = omega arith in
-    let c : x / 16777216 ≡ x / 256 / 256 / 256 % 256 = omega arith in
-    λ i. set (set (set (set l at (x % 256)) (first i) (x / 256 % 256)) (second i) (b i)) (third i) (c i)
+pub low-le : (n x : ℕ) → bytes_low_first 0 n x ≡ le n x
+low-le zero x = refl
+low-le (suc n) x = ap (λ (ds : List ℕ). x % 256 ∷ ds) (low-shifted 0 n x ∙ low-le n (x / 256))
+
+pub stored : (n : ℕ) (a : List ℕ) (at x : ℕ) {b xs : List ℕ} → b ≡ sets a at xs → xs ≡ bytes_low_first 0 n x → b ≡ sets a at (le n x)
+stored n a at x p q = p ∙ ap (sets a at) (q ∙ low-le n x)
 
 -- ---- an array's numbers, stored one after the other
 
@@ -159,20 +190,7 @@ module _ (size : ℕ) (xs l : List ℕ) (at : ℕ) where
       laid_more 7 (omega (arith, long)) l7 (at + 7 * size) (omega arith) p7
       ∙ ap (λ (ys : List ℕ). sets l at (each (le size) ys)) (take_all 8 xs (omega (arith, long)))
 
--- eight bytes
-byte-stored : (l : List ℕ) (at x : ℕ) → x < 256 → set l at x ≡ sets l at (le 1 x)
-byte-stored l at x h = let same : x ≡ x % 256 = omega arith in ap (set l at) same
-
-module _ (xs l : List ℕ) (at : ℕ) (long : length xs ≡ 8) (h : (i : ℕ) → get_or xs i 0 < 256) where
-  -- the first, and n after it
-  abbrev bytes-to : ℕ → List ℕ
-  bytes-to zero = set l at (get_or xs 0 0)
-  bytes-to (suc n) = set (bytes-to n) (at + suc n) (get_or xs (suc n) 0)
-
-  last_byte : (n : ℕ) → bytes-to (suc n) ≡ sets (bytes-to n) (at + suc n) (le 1 (get_or xs (suc n) 0))
-  last_byte n = byte-stored (bytes-to n) (at + suc n) (get_or xs (suc n) 0) (h (suc n))
-
-  pub laid-bytes : bytes-to 7 ≡ sets l at (each (le 1) xs)
-  laid-bytes =
-      laid-eight 1 xs l at long (byte-stored l at (get_or xs 0 0) (h 0))
-      (last_byte 0) (last_byte 1) (last_byte 2) (last_byte 3) (last_byte 4) (last_byte 5) (last_byte 6)
+-- bytes are numbers of one byte
+pub each-byte : (xs : List ℕ) → ((i : ℕ) → get_or xs i 0 < 256) → each (le 1) xs ≡ xs
+each-byte [] h = refl
+each-byte (x ∷ xs) h = let same : x % 256 ≡ x = omega (arith, h 0) in ap₂ ◌∷◌ same (each-byte xs (λ i. h (suc i)))

@@ -12,7 +12,8 @@ use Rattle.layout.specs.Layout.{le, each}
 use Rattle.layout.proofs.Fields.{number_of}
 use Rattle.rule_state.specs.declared.RuleState.{RuleState}
 use Rattle.words.specs.Upto.{map_n, map_n-more, length-map_n}
-use Rattle.words.specs.Words.{rule_offset, memory_length, taken_at, latest_at, verdict_at, mask_at, dues_at, numbers_from, state_in, no_state, rules_in, Held, held_by, Fits, Holds, Clean, with_rules, nothing_taken, Stores}
+use Rattle.words.specs.Words.{rule_offset, memory_length, taken_at, latest_at, verdict_at, mask_at, dues_at, numbers_from, state_in, no_state, rules_in}
+use Rattle.words.specs.Words.{Held, held_by, Fits, Holds, Clean, with_rules, nothing_taken, Stores}
 use Rattle.words.proofs.Places.{map_n-within, set-map_n, get_d-map_n}
 use Rattle.words.proofs.Bytes.{sets-sets, get_d-sets-out, drop-sets, number-alike, numbers-alike, numbers_of_lem, each-length}
 
@@ -186,11 +187,11 @@ module _ (m : List ℕ) (taken latest verdict mask dues : ℕ) where
   bytes = own_bytes taken latest verdict mask dues
 
   -- numbers and bytes, stored one after the other
-  pub own-stored : {a b c d e : List ℕ} → a ≡ sets m taken_at (le 4 taken) → b ≡ sets a latest_at (le 4 latest)
-      → c ≡ sets (set (set b verdict_at verdict) 521 0) mask_at (le 2 mask) → d ≡ sets c dues_at (le 2 dues) → e ≡ sets d 526 (le 2 0) → e ≡ sets m taken_at bytes
-  own-stored p q r s t =
+  pub own-stored : {a b c d e f : List ℕ} → a ≡ sets m taken_at (le 4 taken) → b ≡ sets a latest_at (le 4 latest)
+      → c ≡ sets b verdict_at (verdict ∷ 0 ∷ []) → d ≡ sets c mask_at (le 2 mask) → e ≡ sets d dues_at (le 2 dues) → f ≡ sets e 526 (le 2 0) → f ≡ sets m taken_at bytes
+  own-stored p q v r s t =
       t ∙ ap (λ (l : List ℕ). sets l 526 (le 2 0)) (s ∙ ap (λ (l : List ℕ). sets l dues_at (le 2 dues))
-      (r ∙ ap (λ (l : List ℕ). sets (set (set l verdict_at verdict) 521 0) mask_at (le 2 mask)) (q ∙ ap (λ (l : List ℕ). sets l latest_at (le 4 latest)) p)))
+      (r ∙ ap (λ (l : List ℕ). sets l mask_at (le 2 mask)) (v ∙ ap (λ (l : List ℕ). sets l verdict_at (verdict ∷ 0 ∷ [])) (q ∙ ap (λ (l : List ℕ). sets l latest_at (le 4 latest)) p))))
 
   pub settles : {after : List ℕ} → after ≡ sets m taken_at bytes → taken < 4294967296 → latest < 4294967296 → mask < 65536 → dues < 65536 → {h : Held} → Holds m h
       → Clean after (record { rules = h.rules; taken = taken; latest = latest; verdict = verdict; mask = mask; dues = dues })

@@ -3,7 +3,7 @@
 // in and out by value. All bytes are taken, and a rule's number is reduced by a remainder, so that nothing is asked of either.
 #![tactic(auto)]
 
-ghost use Rattle.std.specs.Prelude.{◌≡◌, ◌+◌, ◌%◌, ◌<◌, ◌≤◌, get_or};
+ghost use Rattle.std.specs.Prelude.{◌≡◌, ◌+◌, ◌%◌, ◌≤◌, get_or, take, drop};
 ghost use Rattle.std.proofs.lemmas.List.Edits.{sets};
 ghost use Rattle.layout.specs.Form.{number};
 ghost use Rattle.layout.specs.Layout.{le, each};
@@ -44,18 +44,22 @@ pub const LENGTH: usize = TAKEN + 16;
 
 pub type Memory = [u8; LENGTH];
 
-// ---- numbers in bytes, little-endian
+// ---- bytes, and numbers in them, little-endian
 
-fn wide16(x: u8) -> u16
-    ensures { (result ≡ x) × (result < 256) }
+// The N bytes from an offset on.
+fn bytes_at<const N: usize>(m: &Memory, at: usize) -> [u8; N]
+    requires { at + N ≤ 528 }
+    ensures { result ≡ take N (drop at m.now) }
 {
-    x as u16
+    *m[at..at + N].first_chunk().unwrap()
 }
 
-fn wide32(x: u8) -> u32
-    ensures { (result ≡ x) × (result < 256) }
+// Bytes to an offset.
+fn put<const N: usize>(m: &mut Memory, at: usize, bytes: [u8; N])
+    requires { at + N ≤ 528 }
+    ensures { m.new ≡ sets m.old at bytes.entry }
 {
-    x as u32
+    m[at..at + N].copy_from_slice(&bytes);
 }
 
 // The number of the two bytes from an offset on.
@@ -63,7 +67,7 @@ fn get16(m: &Memory, at: usize) -> u16
     requires { at + 2 ≤ 528 }
     ensures { result ≡ number m.now 2 at }
 {
-    wide16(m[at]) + 256 * wide16(m[at + 1])
+    u16::from_le_bytes(bytes_at(m, at))
 }
 
 // The number of the four bytes from an offset on.
@@ -71,49 +75,12 @@ fn get32(m: &Memory, at: usize) -> u32
     requires { at + 4 ≤ 528 }
     ensures { result ≡ number m.now 4 at }
 {
-    wide32(m[at]) + 256 * (wide32(m[at + 1]) + 256 * (wide32(m[at + 2]) + 256 * wide32(m[at + 3])))
+    u32::from_le_bytes(bytes_at(m, at))
 }
 
-// A number into the two bytes from an offset on.
-fn set16(m: &mut Memory, at: usize, x: u16)
-    requires { at + 2 ≤ 528 }
-    ensures { m.new ≡ sets m.old at (le 2 x) }
-{
-    m[at] = (x % 256) as u8;
-    m[at + 1] = (x / 256) as u8;
-}
+// ---- a rule's eight counts, two bytes each: spelled out, since no loop goes over the ranges at an event
 
-// A number into the four bytes from an offset on.
-fn set32(m: &mut Memory, at: usize, x: u32)
-    requires { at + 4 ≤ 528 }
-    ensures { m.new ≡ sets m.old at (le 4 x) }
-{
-    m[at] = (x % 256) as u8;
-    m[at + 1] = (x / 256 % 256) as u8;
-    m[at + 2] = (x / 65536 % 256) as u8;
-    m[at + 3] = (x / 16777216) as u8;
-}
-
-// ---- a rule's eight states and eight counts
-
-// Eight bytes from an offset on.
-fn states_at(m: &Memory, at: usize) -> [u8; 8]
-    requires { at + 8 ≤ 528 }
-    ensures { result ≡ numbers_from m.now 1 8 at }
-{
-    [
-        m[at],
-        m[at + 1],
-        m[at + 2],
-        m[at + 3],
-        m[at + 4],
-        m[at + 5],
-        m[at + 6],
-        m[at + 7],
-    ]
-}
-
-// Eight numbers of two bytes from an offset on.
+// Eight numbers from an offset on.
 fn counts_at(m: &Memory, at: usize) -> [u16; 8]
     requires { at + 16 ≤ 528 }
     ensures { result ≡ numbers_from m.now 2 8 at }
@@ -130,34 +97,19 @@ fn counts_at(m: &Memory, at: usize) -> [u16; 8]
     ]
 }
 
-// Eight bytes to an offset.
-fn lay_states(m: &mut Memory, at: usize, x: [u8; 8])
-    requires { at + 8 ≤ 528 }
-    ensures { m.new ≡ sets m.old at (each (le 1) x) }
-{
-    m[at] = x[0];
-    m[at + 1] = x[1];
-    m[at + 2] = x[2];
-    m[at + 3] = x[3];
-    m[at + 4] = x[4];
-    m[at + 5] = x[5];
-    m[at + 6] = x[6];
-    m[at + 7] = x[7];
-}
-
-// Eight numbers, two bytes each, to an offset.
-fn lay_counts(m: &mut Memory, at: usize, x: [u16; 8])
+// Eight numbers to an offset.
+fn put_counts(m: &mut Memory, at: usize, x: [u16; 8])
     requires { at + 16 ≤ 528 }
     ensures { m.new ≡ sets m.old at (each (le 2) x) }
 {
-    set16(m, at, x[0]);
-    set16(m, at + 2, x[1]);
-    set16(m, at + 4, x[2]);
-    set16(m, at + 6, x[3]);
-    set16(m, at + 8, x[4]);
-    set16(m, at + 10, x[5]);
-    set16(m, at + 12, x[6]);
-    set16(m, at + 14, x[7]);
+    put(m, at, x[0].to_le_bytes());
+    put(m, at + 2, x[1].to_le_bytes());
+    put(m, at + 4, x[2].to_le_bytes());
+    put(m, at + 6, x[3].to_le_bytes());
+    put(m, at + 8, x[4].to_le_bytes());
+    put(m, at + 10, x[5].to_le_bytes());
+    put(m, at + 12, x[6].to_le_bytes());
+    put(m, at + 14, x[7].to_le_bytes());
 }
 
 // ---- a rule's 32 bytes
@@ -167,13 +119,11 @@ pub fn load(m: &Memory, r: usize) -> RuleState
     ensures { result ≡ get_or (held_by m.now).rules (r % 16) no_state }
 {
     let k = RULE * (r % 16);
-    let x = states_at(m, k + STATES);
-    let n = counts_at(m, k + COUNTS);
     RuleState {
         fragment: m[k],
         current: m[k + CURRENT],
-        states: x,
-        counts: n,
+        states: bytes_at(m, k + STATES),
+        counts: counts_at(m, k + COUNTS),
         lacking: m[k + LACKING],
         full: m[k + FULL],
         end: get32(m, k + END),
@@ -192,15 +142,13 @@ pub fn store(m: &mut Memory, r: usize, st: RuleState)
     ensures { Stores m.old (r % 16) st m.new }
 {
     let k = RULE * (r % 16);
-    let x = st.states;
-    let n = st.counts;
     m[k] = st.fragment;
     m[k + CURRENT] = st.current;
     m[k + LACKING] = st.lacking;
     m[k + FULL] = st.full;
-    set32(m, k + END, st.end);
-    lay_states(m, k + STATES, x);
-    lay_counts(m, k + COUNTS, n);
+    put(m, k + END, st.end.to_le_bytes());
+    put(m, k + STATES, st.states);
+    put_counts(m, k + COUNTS, st.counts);
 }
 
 // ---- the monitor's own 16 bytes
@@ -240,15 +188,14 @@ pub fn dues(m: &Memory) -> u16
     get16(m, DUES)
 }
 
-// All but the rules' states.
+// All but the rules' states. Five numbers, and no struct: those who call it have them apart, and nobody passes them on together.
 pub fn settle(m: &mut Memory, taken: u32, latest: u32, verdict: u8, mask: u16, dues: u16)
     ensures { (k : Held) → Holds m.old k → Clean m.new (record { rules = k.rules; taken = taken; latest = latest; verdict = verdict; mask = mask; dues = dues }) }
 {
-    set32(m, TAKEN, taken);
-    set32(m, LATEST, latest);
-    m[VERDICT] = verdict;
-    m[VERDICT + 1] = 0;
-    set16(m, MASK, mask);
-    set16(m, DUES, dues);
-    set16(m, DUES + 2, 0);
+    put(m, TAKEN, taken.to_le_bytes());
+    put(m, LATEST, latest.to_le_bytes());
+    put(m, VERDICT, [verdict, 0]);
+    put(m, MASK, mask.to_le_bytes());
+    put(m, DUES, dues.to_le_bytes());
+    put(m, DUES + 2, [0; 2]);
 }

@@ -1,5 +1,5 @@
--- `opening::unstarted` meets its contract. After r turns the first r rules are fresh, and nothing else is held. The measure is what is left of the 16. Assumes nothing.
-use Rattle.std.proofs.Common.{ℕ, ◌≤◌, ◌-◌}
+-- `opening::unstarted` meets its contract. After r turns the first r rules are fresh, and nothing else is held. Assumes nothing.
+use Rattle.std.proofs.Common.{ℕ}
 use Rattle.rule_state.specs.declared.RuleState.{RuleState}
 use Rattle.words.specs.Upto.{map_n}
 use Rattle.words.specs.Words.{Clean, nothing_taken}
@@ -11,7 +11,4 @@ abbrev pub anew : ℕ → RuleState → RuleState
 anew r st = fresh_state
 
 abbrev pub invariant-loop-r : goal.invariant-loop-r
-invariant-loop-r l = (l.r ≤ 16) × Clean l.m (nothing_taken (map_n anew 0 l.r blank))
-
-abbrev pub decreases-loop-r : goal.decreases-loop-r
-decreases-loop-r l = 16 - l.r
+invariant-loop-r l = Clean l.m (nothing_taken (map_n anew 0 l.r blank))

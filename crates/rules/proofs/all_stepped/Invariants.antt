@@ -4,8 +4,5 @@ use Rattle.words.specs.Words.{Held, Holds}
 use Rattle.rules.proofs.Passing.{Stepping}
 use Rattle.rules.proofs.all_stepped.Given as goal
 
-abbrev pub invariant-loop-todo : goal.invariant-loop-todo
-invariant-loop-todo l = (was : Held) → Holds l.initial.m was → Stepping l.table l.noted l.who l.name l.time was l.m l.todo l.all
-
-abbrev pub decreases-loop-todo : goal.decreases-loop-todo
-decreases-loop-todo l = l.todo
+abbrev pub invariant-loop-r : goal.invariant-loop-r
+invariant-loop-r l = (was : Held) → Holds l.initial.m was → Stepping l.table l.noted l.who l.name l.time was l.m l.r-iterator.0 l.all

@@ -1,5 +1,4 @@
--- `rules::all_waited` meets its contract. The loop's invariant is `Noting`: the masks speak of the rules seen. Each turn takes the lowest rule out of `todo`, which so becomes a smaller
--- number: the measure. When it is 0, all have been seen. Assumes nothing.
+-- `rules::all_waited` meets its contract. The loop's invariant is `Noting`: the masks speak of the rules seen, and the iterator holds those that are left. Assumes nothing.
 use mathlib.Core.List.{List}
 use Prim.Native.Nat.{ℕ}
 use lib.ListN.{get_or}
@@ -12,8 +11,5 @@ use Rattle.rules.proofs.all_waited.Given as goal
 abbrev pub stands : (table bytes : List ℕ) (time k : ℕ) → Standing
 stands table bytes time k = (waited_of table k (get_or (held_by bytes).rules k no_state) time).standing
 
-abbrev pub invariant-loop-todo : goal.invariant-loop-todo
-invariant-loop-todo l = Noting 0 l.who (stands l.table l.m l.time) l.todo l.all
-
-abbrev pub decreases-loop-todo : goal.decreases-loop-todo
-decreases-loop-todo l = l.todo
+abbrev pub invariant-loop-r : goal.invariant-loop-r
+invariant-loop-r l = Noting 0 l.who (stands l.table l.m l.time) l.r-iterator.0 l.all

@@ -9,5 +9,5 @@ use Rattle.rules.proofs.stepped.Goals as goal
 pub returns : goal.returns
 returns c was h =
     let own : c.args.r % 16 ≡ c.args.r = omega (arith, c.requires) in
-    let e = rw (c.load-was.ensures, own, ap (λ (x : Held). x.rules) h.held) at c.act-s.ensures in
+    let e = rw (c.load.ensures, own, ap (λ (x : Held). x.rules) h.held) at c.act-s.ensures in
     record { stands = ap (λ (s : Stepped). s.standing) e; holds = rw (← e, ← own) (c.store.ensures.holds h) }

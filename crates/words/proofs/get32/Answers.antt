@@ -1,9 +1,8 @@
 -- `words::get32` meets its contract: four bytes, the lowest first. Assumes nothing.
-use native.Mathlib.Omega.{arith}
-use Rattle.words.proofs.Bytes.{four}
+use mathlib.Core.Path.{◌∙◌, ap}
+use Rattle.std.specs.Int.{w32, from_le_bytes}
+use Rattle.words.proofs.Bytes.{from-four}
 use Rattle.words.proofs.get32.Goals as goal
 
 pub returns : goal.returns
-returns c =
-    let a = c.args in
-    omega (arith, four a.m.now a.at, c.wide32.ensures.0, c.wide32-2.ensures.0, c.wide32-3.ensures.0, c.wide32-4.ensures.0)
+returns c = c.from_le_bytes.ensures ∙ ap (from_le_bytes w32) c.bytes_at.ensures ∙ from-four c.args.m.now c.args.at
