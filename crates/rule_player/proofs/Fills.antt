@@ -1,16 +1,18 @@
 -- The filling of a fragment is its recogniser's state: how often a range has come, and which came last, say where the range's recogniser stands (`state_of`). So a name may come exactly when it is an
 -- error to no range, the fragment may be left exactly when it may be followed, and it takes the words that its fillings allow, step by step; where it may not be left, the needed name may come.
 -- Assumes nothing.
-use mathlib.Core.Path.{◌≡◌, refl, sym, ◌∙◌, ap}
+use mathlib.Core.Path.{◌≡◌, refl, sym, ◌∙◌}
 use mathlib.Core.Logic.{inl, inr, ◌≢◌, ◌↔◌}
 use mathlib.Core.Bool.{Bool, true, false, cond, not, ◌&&◌, ◌||◌, true≢false, and-eq-true_iff, or-true, or-false}
 use mathlib.Core.List.{List, [], ◌∷◌}
-use Prim.Native.Nat.{ℕ, zero, suc, ◌-◌, ◌≤◌, ◌<◌}
+use Prim.Native.Nat.{ℕ, zero, suc, ◌≤◌, ◌<◌}
 use native.Mathlib.Omega.{arith}
 use lib.Dec.{T, eqb, ltb}
 use lib.ListN.{length, get_or, length-set, get_or-replicate}
 use lib.Seq.{get_or-set_same, get_or-set_other}
 use borrow.Author.Tests.{eq-eqb, ne_eqb, eqb-true, eqb-false, lt-ltb, lt-leb, leb-false, ltb-true, not-true}
+use Rattle.std.specs.Prelude.{Option, Some, None, is_some, is_none}
+use Rattle.std.specs.Option.{option_eq}
 use Rattle.pattern.specs.Lists.{In}
 use Rattle.pattern.specs.Meaning.{Range, Join, may_be_left_out, shuffled, Fragment, MatchesFragment, fragment_names}
 use Rattle.pattern.specs.Recogniser.{State, idle, unbegun, waiting, counting, done, error, own, sibling, next, has_enough, has_room, move, next_count, is_idle, is_error, Slot}
@@ -25,7 +27,7 @@ use Rattle.layout.proofs.Once.{in-names, same-range, name-place}
 use Rattle.tables.proofs.Names.{first-at, first-before}
 use Rattle.rule_player.specs.declared.Filling.{Filling}
 use Rattle.rule_player.specs.Choice.{empty, count_of, comes, is_new, room_for, range_of, enough_of, goes_on, may_change, may_come, is_short, first_short, needs_every, may_end, needed}
-use Rattle.rule_player.proofs.Walk.{needed-within, needed-begun, needed-short}
+use Rattle.rule_player.proofs.Walk.{some-or-none, some≢none, same-some, the-last-is, needed-within, needed-begun, needed-short}
 
 range-in : (rs : List Range) (k : ℕ) → k < length rs → In (get_or rs k no_range) rs
 range-in [] k h = absurd (omega arith)
@@ -49,13 +51,13 @@ module _ (c : Checked) where
 
   -- a block that may not go on is done, or was ended too early
   abbrev state_of : Filling → ℕ → State
-  state_of s k = cond (eqb (count_of s k) 0) (cond (eqb s.last 0) unbegun waiting) (cond (goes_on f s k) counting (cond (enough_of f s k) done error))
+  state_of s k = cond (eqb (count_of s k) 0) (cond (is_none s.last) unbegun waiting) (cond (goes_on f s k) counting (cond (enough_of f s k) done error))
 
   abbrev slot_of : Filling → ℕ → Slot
   slot_of s k = slot (r k) (state_of s k) (count_of s k)
 
   module _ (s : Filling) (k : ℕ) where
-    none-state : count_of s k ≡ 0 → state_of s k ≡ cond (eqb s.last 0) unbegun waiting
+    none-state : count_of s k ≡ 0 → state_of s k ≡ cond (is_none s.last) unbegun waiting
     none-state z = rw (eq-eqb _ _ z) refl
 
     begun-state : 1 ≤ count_of s k → state_of s k ≡ cond (goes_on f s k) counting (cond (enough_of f s k) done error)
@@ -64,8 +66,8 @@ module _ (c : Checked) where
   -- what holds of a filling
   pub record Good (s : Filling) : Type 0 where
     pub eight : length s.counts ≡ 8
-    pub none : s.last ≡ 0 → (k : ℕ) → k < size → count_of s k ≡ 0
-    pub some : (l : ℕ) → s.last ≡ suc l → (l < size) × (1 ≤ count_of s l)
+    pub none : s.last ≡ None → (k : ℕ) → k < size → count_of s k ≡ 0
+    pub some : (l : ℕ) → s.last ≡ Some l → (l < size) × (1 ≤ count_of s l)
     -- no block was ended too early
     pub over : (k : ℕ) → k < size → 1 ≤ count_of s k → goes_on f s k ≡ false → enough_of f s k ≡ true
 
@@ -85,19 +87,19 @@ module _ (c : Checked) where
 
   module _ (s : Filling) (i : ℕ) where
     abbrev Begins : Type 0
-    Begins = (is_new s i ≡ true) × ((l : ℕ) → s.last ≡ suc l → enough_of f s l ≡ true)
+    Begins = (is_new s i ≡ true) × ((l : ℕ) → s.last ≡ Some l → enough_of f s l ≡ true)
 
     may← : (goes_on f s i ≡ true → room_for (r i) (count_of s i) ≡ true) → (goes_on f s i ≡ false → Begins) → may_come f s i ≡ true
     may← more begins = elim (true-or-false (goes_on f s i)) [ inl e ↦ rw e (more e) | inr e ↦ rw (e, (begins e).0) (last s.last refl (begins e).1) ]
       where
-        last : (x : ℕ) → s.last ≡ x → ((l : ℕ) → s.last ≡ suc l → enough_of f s l ≡ true) → may_change f s ≡ true
-        last zero q enough = rw (eq-eqb _ _ q) refl
-        last (suc l) q enough = let p : s.last - 1 ≡ l = omega arith in rw (ne_eqb s.last 0 (λ z. omega arith), p) (enough l q)
+        last : (x : Option ℕ) → s.last ≡ x → ((l : ℕ) → s.last ≡ Some l → enough_of f s l ≡ true) → may_change f s ≡ true
+        last None q enough = rw q refl
+        last (Some l) q enough = rw q (enough l q)
 
     may→ : may_come f s i ≡ true → goes_on f s i ≡ false → Begins
     may→ may e =
         let (z, h) = (and-eq-true_iff (is_new s i) (may_change f s)).0 (rw e at may) in
-        (z, λ l q. let p : s.last - 1 ≡ l = omega arith in rw (ne_eqb s.last 0 (λ y. omega arith), p) at h)
+        (z, λ l q. rw q at h)
 
   -- ---- it moves each range's recogniser as the filling says
 
@@ -106,14 +108,14 @@ module _ (c : Checked) where
     came = get_or-set_same s.counts i (suc (count_of s i)) 0 (omega (arith, good.eight, c.count.1))
 
     own-goes : goes_on f (comes s i) i ≡ true
-    own-goes = rw (eq-eqb (suc i) (suc i) refl) (or-true (shuffled j))
+    own-goes = rw (eq-eqb i i refl) (or-true (shuffled j))
 
     own_turn : turn j (r i).name (slot_of s i) ≡ slot_of (comes s i) i
     own_turn = turn-own j (r i).name (slot_of s i) refl ∙ moved ∙ sym (rw (came, own-goes, ne_eqb (suc (count_of s i)) 0 (λ z. omega arith)) refl)
       where
         moved : slot (r i) (move j (r i) (count_of s i) (state_of s i) own) (next_count (r i) (count_of s i) (state_of s i)) ≡ slot (r i) counting (suc (count_of s i))
         moved = elim (none_or_some (count_of s i)) [
-          | inl z ↦ rw (none-state s i z, z) (by_cond (λ (x : State). slot (r i) (move j (r i) 0 x own) (next_count (r i) 0 x) ≡ slot (r i) counting 1) (eqb s.last 0) refl refl)
+          | inl z ↦ rw (none-state s i z, z) (by_cond (λ (x : State). slot (r i) (move j (r i) 0 x own) (next_count (r i) 0 x) ≡ slot (r i) counting 1) (is_none s.last) refl refl)
           | inr p ↦ elim (true-or-false (goes_on f s i)) [
             | inl e ↦ rw (begun-state s i p, e, rw e at may) refl
             | inr e ↦ absurd (omega (arith, eqb-true (count_of s i) 0 (may→ s i may e).0))
@@ -125,10 +127,10 @@ module _ (c : Checked) where
       stays = get_or-set_other s.counts i k (suc (count_of s i)) 0 d
 
       sibling-goes : goes_on f (comes s i) k ≡ shuffled j
-      sibling-goes = rw (ne_eqb (suc i) (suc k) (λ z. d (omega arith))) (or-false (shuffled j))
+      sibling-goes = rw (ne_eqb i k (λ z. d (sym z))) (or-false (shuffled j))
 
       sibling-moves : move j (r k) (count_of s k) (state_of s k) sibling ≡ state_of (comes s i) k
-      sibling-moves = rw (stays, sibling-goes, ne_eqb (suc i) 0 (λ z. omega arith)) (go (eqb (count_of s k) 0) (eqb s.last 0) (shuffled j) (eqb s.last (suc k)) (enough_of f s k) refl refl)
+      sibling-moves = rw (stays, sibling-goes) (go (eqb (count_of s k) 0) (is_none s.last) (shuffled j) (option_eq eqb s.last (Some k)) (enough_of f s k) refl refl)
         where
           go : (z l sh b e : Bool) → shuffled j ≡ sh → enough_of f s k ≡ e
               → move j (r k) (count_of s k) (cond z (cond l unbegun waiting) (cond (sh || b) counting (cond e done error))) sibling ≡ cond z waiting (cond sh counting (cond e done error))
@@ -148,8 +150,8 @@ module _ (c : Checked) where
     pub good-comes : Good (comes s i)
     good-comes = record {
       eight = length-set s.counts i (suc (count_of s i)) ∙ good.eight;
-      none = λ e. absurd (omega arith);
-      some = λ l e. let z : l ≡ i = omega arith in rw (z, came) (inside, omega arith);
+      none = λ e. absurd (some≢none e);
+      some = λ l e. let z : l ≡ i = sym (same-some e) in rw (z, came) (inside, omega arith);
       over = over-comes;
     }
       where
@@ -158,9 +160,9 @@ module _ (c : Checked) where
           | inl z ↦ absurd (true≢false (sym own-goes ∙ (rw z at e)))
           | inr d ↦
               let q : shuffled j ≡ false = sym (sibling-goes k d) ∙ e in
-              rw (stays k d) (elim (same? s.last (suc k)) [
-                | inl y ↦ (may→ s i may (rw (q, ne_eqb s.last (suc i) (λ x. d (omega arith))) refl)).1 k y
-                | inr y ↦ good.over k h (rw (stays k d) at p) (rw (q, ne_eqb _ _ y) refl)
+              rw (stays k d) (elim (true-or-false (option_eq eqb s.last (Some k))) [
+                | inl y ↦ let l : s.last ≡ Some k = the-last-is s.last k y in (may→ s i may (rw (q, l, ne_eqb k i d) refl)).1 k l
+                | inr y ↦ good.over k h (rw (stays k d) at p) (rw (q, y) refl)
               ])
         ]
 
@@ -203,14 +205,14 @@ module _ (c : Checked) where
             ]
 
             -- else the block that came last would be cut short
-            last-enough : (l : ℕ) → s.last ≡ suc l → enough_of f s l ≡ true
+            last-enough : (l : ℕ) → s.last ≡ Some l → enough_of f s l ≡ true
             last-enough l z = elim (true-or-false (enough_of f s l)) [
               | inl y ↦ y
               | inr y ↦
                   let (inner, p) = good.some l z in
-                  let (row, d) = neither (shuffled j) (eqb s.last (suc i)) e in
-                  let other : m ≢ (r l).name = λ q. eqb-false _ _ d (z ∙ ap suc (same-range f.ranges c.fine.distinct l i inner inside (sym q ∙ named))) in
-                  absurd (fine l inner (rw (ne_eqb m (r l).name other, begun-state s l p, eq-eqb _ _ z, or-true (shuffled j), row, y) refl))
+                  let (row, d) = neither (shuffled j) (option_eq eqb s.last (Some i)) e in
+                  let other : m ≢ (r l).name = λ q. eqb-false l i (rw z at d) (same-range f.ranges c.fine.distinct l i inner inside (sym q ∙ named)) in
+                  absurd (fine l inner (rw (ne_eqb m (r l).name other, begun-state s l p, z, eq-eqb l l refl, or-true (shuffled j), row, y) refl))
             ]
 
       pub allows-first : (i : ℕ) × (i < size) × (m ≡ (range_of c.fragment i).name) × (may_come c.fragment s i ≡ true) × Allows (comes s i) w
@@ -225,9 +227,9 @@ module _ (c : Checked) where
   abbrev every : Bool
   every = needs_every f
 
-  stops : (s : Filling) → s.last ≢ 0 → (k : ℕ) → k < size → is_idle (move j (r k) (count_of s k) (state_of s k) next) ≡ not (is_short f s every k)
+  stops : (s : Filling) → is_none s.last ≡ false → (k : ℕ) → k < size → is_idle (move j (r k) (count_of s k) (state_of s k) next) ≡ not (is_short f s every k)
   stops s d k h = elim (none_or_some (count_of s k)) [
-    | inl z ↦ rw (none-state s k z, ne_eqb _ _ d, z, none-short s k h) (left (may_be_left_out j))
+    | inl z ↦ rw (none-state s k z, d, z, none-short s k h) (left (may_be_left_out j))
     | inr p ↦ rw (begun-state s k p, lt-ltb 0 (count_of s k) p, or-true every) (begun (goes_on f s k) (enough_of f s k) refl)
   ]
     where
@@ -241,22 +243,29 @@ module _ (c : Checked) where
       begun false true q = refl
       begun false false q = refl
 
+  none-not : (o : Option ℕ) → is_some o ≡ true → is_none o ≡ false
+  none-not None e = absurd (true≢false (sym e))
+  none-not (Some l) e = refl
+
   pub allows-end : (s : Filling) → Good s → Allows s [] ↔ (may_end c.fragment s ≡ true)
   allows-end s good = (end, stop)
     where
       end : Allows s [] → may_end f s ≡ true
       end a =
-          let begun : s.last ≢ 0 = λ e. let t = a.each 0 c.count.0 in rw (eq-eqb _ _ e, eq-eqb _ _ (good.none e 0 c.count.0)) at t in
-          let none : (k : ℕ) → k < size → is_short f s every k ≡ false = λ k h. not-true _ (sym (stops s begun k h) ∙ is_true _ (a.each k h)) in
+          let (l, begun) : (l : ℕ) × (s.last ≡ Some l) = elim (some-or-none s.last) [
+            | inl e ↦ let t = a.each 0 c.count.0 in absurd (rw (e, eq-eqb _ _ (good.none e 0 c.count.0)) at t)
+            | inr p ↦ p
+          ] in
+          let none : (k : ℕ) → k < size → is_short f s every k ≡ false = λ k h. not-true _ (sym (stops s (rw begun refl) k h) ∙ is_true _ (a.each k h)) in
           let past : first_short f s every ≡ size = first-at (is_short f s every) size size 0 (omega arith) (omega arith) none (λ h. absurd (omega arith)) in
-          rw (ne_eqb s.last 0 begun, eq-eqb _ _ past) refl
+          rw (begun, eq-eqb _ _ past) refl
 
       stop : may_end f s ≡ true → Allows s []
       stop e =
-          let (d, q) = (and-eq-true_iff (not (eqb s.last 0)) (eqb (first_short f s every) size)).0 e in
+          let (d, q) = (and-eq-true_iff (is_some s.last) (eqb (first_short f s every) size)).0 e in
           let q' : first_short f s every ≡ size = eqb-true _ _ q in
           let none : (k : ℕ) → k < size → is_short f s every k ≡ false = λ k h. first-before (is_short f s every) 0 size k (omega arith) (omega arith) in
-          record { on = λ m i. absurd i; each = λ k h. rw (stops s (eqb-false _ _ (not-true _ d)) k h, none k h) tt }
+          record { on = λ m i. absurd i; each = λ k h. rw (stops s (none-not s.last d) k h, none k h) tt }
 
   -- ---- where it may not be left, the needed name may come
 
@@ -265,7 +274,7 @@ module _ (c : Checked) where
     i = needed f s
 
     -- else the block that came last would be needed
-    last-enough : count_of s i ≡ 0 → (l : ℕ) → s.last ≡ suc l → enough_of f s l ≡ true
+    last-enough : count_of s i ≡ 0 → (l : ℕ) → s.last ≡ Some l → enough_of f s l ≡ true
     last-enough z l e = elim (true-or-false (enough_of f s l)) [
       | inl y ↦ y
       | inr y ↦
@@ -275,12 +284,12 @@ module _ (c : Checked) where
     ]
 
     pub needed-may : (needed c.fragment s < size) × (may_come c.fragment s (needed c.fragment s) ≡ true)
-    needed-may = elim (same? s.last 0) [
+    needed-may = elim (some-or-none s.last) [
       | inl e ↦
           let h = needed-within f s c.count.0 in
-          (h, may← s i (λ g. first-room s i h (good.none e i h)) (λ g. (eq-eqb _ _ (good.none e i h), λ l q. absurd (omega arith))))
+          (h, may← s i (λ g. first-room s i h (good.none e i h)) (λ g. (eq-eqb _ _ (good.none e i h), λ l q. absurd (some≢none (sym q ∙ e)))))
       | inr d ↦
-          let (h, short) = needed-short f s d ends in
+          let (h, short) = needed-short f s (rw d.1 refl) ends in
           let absent : goes_on f s i ≡ false → count_of s i ≡ 0 = λ g. elim (none_or_some (count_of s i)) [ inl z ↦ z | inr p ↦ absurd (true≢false (sym (good.over i h p g) ∙ short)) ] in
           (h, may← s i (λ g. short-room s i h short) (λ g. (eq-eqb _ _ (absent g), last-enough (absent g))))
     ]
@@ -291,7 +300,7 @@ module _ (c : Checked) where
   zero-counts k h = get_or-replicate 8 k 0 0 (omega (arith, c.count.1))
 
   pub good-empty : Good empty
-  good-empty = record { eight = refl; none = λ e. zero-counts; some = λ l e. absurd (omega arith); over = λ k h p e. absurd (omega (arith, zero-counts k h)) }
+  good-empty = record { eight = refl; none = λ e. zero-counts; some = λ l e. absurd (some≢none (sym e)); over = λ k h p e. absurd (omega (arith, zero-counts k h)) }
 
   empty-slot : (k : ℕ) → k < size → slot_of empty k ≡ slot (r k) unbegun 0
   empty-slot k h = rw (zero-counts k h) refl

@@ -10,21 +10,18 @@ use lib.Dec.{eqb}
 use lib.ListN.{length, get_or, set, drop, replicate, length-append, length-set}
 use lib.Seq.{get_or-set_other, sets, length-sets}
 use borrow.Author.Tests.{eqb-true, eqb-false}
-use denote.Enum.Declared.{tag_of}
+use Rattle.std.specs.Prelude.{Some, None}
 use Rattle.pattern.specs.Meaning.{Range, Fragment}
-use Rattle.pattern.proofs.Basics.{zero_one}
 use Rattle.tables.specs.Words.{round_in}
 use Rattle.tables.specs.Cells.{head_at}
 use Rattle.rule_player.specs.declared.Filling.{Filling}
 use Rattle.rule_player.specs.declared.Ranges.{Ranges}
 use Rattle.rule_player.specs.declared.Step.{Step}
 use Rattle.rule_player.specs.declared.Step.TheVariants.{Name, Leave}
-use Rattle.rule_player.specs.declared.Length.TheVariants.{Fits, Longer}
 use Rattle.rule_player.specs.Choice.{empty, count_of, comes, step_by, Stand, first_byte, other_bytes, said_by, leads_to, chosen_from, chosen_in}
 use Rattle.rule_player.specs.Said.{listed, size_by, fragment_by, ranges_at, fragment_said, round_said}
 use Rattle.rule_player.specs.Playing.{record_bytes, records_of}
 use Rattle.rule_player.specs.Passing.{byte_at, put_if, leaves, PassesBy, Passes}
-use Rattle.rule_player.specs.contracts.Step.{the_type}
 use Rattle.rule_player.proofs.Said.{size_is, range-is}
 use Rattle.rule_player.proofs.Walk.{Small, chosen-step, chosen_none, named-within}
 
@@ -104,7 +101,6 @@ module _ (table : List ℕ) (r time : ℕ) (choice : List ℕ) (writes : Bool) (
     pub few : n ≤ length before / 5
     pub far : f ≤ fragment_count
     pub here : f < fragment_count → x ≡ ranges_at table r f
-    pub last : s.last ≤ size_by x
     pub eight : length s.counts ≡ 8
     pub bound : (i : ℕ) → count_of s i ≤ n
     pub names : chosen_in (round_said table r) choice ≡ done ++ chosen_from (standing n f s)
@@ -118,7 +114,6 @@ module _ (table : List ℕ) (r time : ℕ) (choice : List ℕ) (writes : Bool) (
     few = omega arith;
     far = omega arith;
     here = λ _. refl;
-    last = omega arith;
     eight = refl;
     bound = λ i. omega (arith, none_came 8 i);
     names = let e : fragment_count ≡ fragment_count - 0 = omega arith in ap (λ (m : ℕ). chosen_from (record { fragments = listed (fragment_said table r) 0 m; filling = empty; bytes = choice })) e;
@@ -129,13 +124,13 @@ module _ (table : List ℕ) (r time : ℕ) (choice : List ℕ) (writes : Bool) (
     pub same-long : length out ≡ length before
     same-long = ap length p.left ∙ put-length writes before 0 (records_of time p.done)
 
-    pub passing-end : fragment_count ≤ f → Passes table r time choice writes before (Fits n) out
+    pub passing-end : fragment_count ≤ f → Passes table r time choice writes before (Some n) out
     passing-end h =
         let z : fragment_count - f ≡ 0 = omega (arith, h) in
         let at : ℕ → Stand = λ m. record { fragments = listed (fragment_said table r) f m; filling = s; bytes = drop (n + f) choice } in
         let none : chosen_from (standing n f s) ≡ [] = ap (λ (m : ℕ). chosen_from (at m)) z ∙ chosen_none s (drop (n + f) choice) in
         let e : chosen_in (round_said table r) choice ≡ p.done = p.names ∙ ap (λ (l : List ℕ). p.done ++ l) none ∙ append-nil p.done in
-        subst (λ (l : List ℕ). PassesBy l time writes before (Fits n) out) (sym e) (omega (arith, p.few, p.number), p.number, p.left)
+        subst (λ (l : List ℕ). PassesBy l time writes before (Some n) out) (sym e) (omega (arith, p.few, p.number), p.number, p.left)
 
     -- the step that was taken, as it was computed from a byte
     pub taken_is : {byte : ℕ} {t u : Step} → t ≡ step_by (fragment_by x) s byte → byte ≡ byte_at choice (n + f) → t ≡ u → step_by (fragment_by x) s (byte_at choice (n + f)) ≡ u
@@ -179,7 +174,7 @@ module _ (table : List ℕ) (r time : ℕ) (choice : List ℕ) (writes : Bool) (
         longer = p.names ∙ ap (λ (l : List ℕ). p.done ++ l) after-name ∙ sym (append_assoc p.done (name ∷ []) _)
 
         -- there is no room for one more
-        pub passing-longer : n ≡ length before / 5 → Passes table r time choice writes before Longer out
+        pub passing-longer : n ≡ length before / 5 → Passes table r time choice writes before None out
         passing-longer full =
             let l = ap length longer ∙ length-append (p.done ++ (name ∷ [])) _ in
             (omega (arith, l, length-append p.done (name ∷ []), p.number, full), λ w. p.left ∙ ap (λ (b : Bool). leaves b time p.done before) w)
@@ -199,7 +194,6 @@ module _ (table : List ℕ) (r time : ℕ) (choice : List ℕ) (writes : Bool) (
           few = room;
           far = p.far;
           here = p.here;
-          last = inside;
           eight = length-set s.counts i (suc (count_of s i)) ∙ p.eight;
           bound = λ k. count-more s i k n p.bound;
           names = longer;
@@ -214,7 +208,6 @@ module _ (table : List ℕ) (r time : ℕ) (choice : List ℕ) (writes : Bool) (
           few = p.few;
           far = h;
           here = at;
-          last = omega arith;
           eight = refl;
           bound = λ i. omega (arith, none_came 8 i);
           names = p.names ∙ ap (λ (l : List ℕ). p.done ++ l) after;
@@ -227,9 +220,3 @@ module _ (table : List ℕ) (r time : ℕ) (choice : List ℕ) (writes : Bool) (
                 let e : suc (n + f) ≡ n + suc f = omega arith in
                 turn ∙ ap (λ (t : Step). said_by (fragment_by x) t ++ chosen_from (leads_to (fragment_by x) rest s (drop (suc (n + f)) choice) t)) step
                 ∙ ap (λ (k : ℕ). chosen_from (record { fragments = rest; filling = empty; bytes = drop k choice })) e
-
--- ---- a step by the number of its variant
-
-pub is-leave : (t : Step) → tag_of the_type t ≡ 1 → t ≡ Leave
-is-leave (Name i) e = absurd (zero_one e)
-is-leave Leave e = refl

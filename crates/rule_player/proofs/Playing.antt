@@ -10,22 +10,19 @@ use lib.Dec.{eqb, ltb, ltb→lt}
 use lib.ListN.{length, get_or, drop}
 use lib.Seq.{sets, sets-eq}
 use borrow.Author.Tests.{lt-ltb, le-ltb}
-use denote.Enum.Declared.{tag_of}
-use Rattle.pattern.proofs.Basics.{both_l, zero_one}
+use Rattle.std.specs.Prelude.{Option, Some, None, Result, Ok, Err}
+use Rattle.pattern.proofs.Basics.{both_l}
 use Rattle.layout.specs.Layout.{Sheet, WellFormedSheet}
 use Rattle.tables.specs.Cells.{head_at}
 use Rattle.book.specs.declared.Book.{Book}
 use Rattle.book.specs.Looks.{Looks}
 use Rattle.store.specs.Answers.{written, refused}
-use Rattle.rule_player.specs.declared.Length.{Length}
-use Rattle.rule_player.specs.declared.Length.TheVariants.{Fits, Longer}
-use Rattle.rule_player.specs.declared.Played.{Played}
-use Rattle.rule_player.specs.declared.Played.TheVariants.{Records, NoRule, TooLong}
+use Rattle.rule_player.specs.declared.Refusal.{Refusal}
+use Rattle.rule_player.specs.declared.Refusal.TheVariants.{NoRule, TooLong}
 use Rattle.rule_player.specs.Choice.{chosen_in}
 use Rattle.rule_player.specs.Said.{round_said, has_rule, chosen_said}
 use Rattle.rule_player.specs.Playing.{answer_of, records_of, writing, playing_of, chosen_of, Plays}
 use Rattle.rule_player.specs.Passing.{PassesBy, Passes}
-use Rattle.rule_player.specs.contracts.Length.{the_type}
 use Rattle.rule_player.proofs.Passing.{records-length}
 use Rattle.rule_player.proofs.Own.{names-own}
 
@@ -48,14 +45,14 @@ module _ (names : List ℕ) (time : ℕ) (before : List ℕ) where
 
 module _ (table : List ℕ) (r time : ℕ) (choice before : List ℕ) where
   -- the names are those that the table says
-  plays : (answer : Played) (after : List ℕ) → record { answer = answer_of answer; output = after } ≡ playing_of (chosen_said table r choice) time before → Plays table r time choice before answer after
+  plays : (answer : Result ℕ Refusal) (after : List ℕ) → record { answer = answer_of answer; output = after } ≡ playing_of (chosen_said table r choice) time before → Plays table r time choice before answer after
   plays answer after call = record { names = chosen_said table r choice; call = call; own = own }
     where
       own : (S : Sheet) (b : Book) → WellFormedSheet S → Looks S b → b.table ≡ table → chosen_said table r choice ≡ chosen_of S.rules r choice
       own S b formed looks e = rw (← e) (names-own S b formed looks r choice)
 
-  pub plays-none : has_rule table r ≡ false → Plays table r time choice before NoRule before
-  plays-none h = plays NoRule before (rw h refl)
+  pub plays-none : has_rule table r ≡ false → Plays table r time choice before (Err NoRule) before
+  plays-none h = plays (Err NoRule) before (rw h refl)
 
   module _ (has : has_rule table r ≡ true) where
     pub of-sixteen : r < 16
@@ -67,25 +64,19 @@ module _ (table : List ℕ) (r time : ℕ) (choice before : List ℕ) where
     said : playing_of (some names) time before ≡ playing_of (chosen_said table r choice) time before
     said = rw has refl
 
-    pub plays-longer : (l : Length) {after : List ℕ} → l ≡ Longer → Passes table r time choice false before l after → Plays table r time choice before TooLong after
+    pub plays-longer : (l : Option ℕ) {after : List ℕ} → l ≡ None → Passes table r time choice false before l after → Plays table r time choice before (Err TooLong) after
     plays-longer l {after} e p =
-        let (long, same) : PassesBy names time false before Longer after = rw e at p in
-        plays TooLong after ((λ k. record { answer = refused 18; output = same refl k }) ∙ sym (too_long names time before long) ∙ said)
+        let (long, same) : PassesBy names time false before None after = rw e at p in
+        plays (Err TooLong) after ((λ k. record { answer = refused 18; output = same refl k }) ∙ sym (too_long names time before long) ∙ said)
 
     -- the second pass is over the same round, and has as much room
-    pub plays-all : (l m : Length) {n : ℕ} (mid : List ℕ) {after : List ℕ} → l ≡ Fits n → Passes table r time choice false before l mid → Passes table r time choice true mid m after
-        → Plays table r time choice before (Records n) after
+    pub plays-all : (l m : Option ℕ) {n : ℕ} (mid : List ℕ) {after : List ℕ} → l ≡ Some n → Passes table r time choice false before l mid → Passes table r time choice true mid m after
+        → Plays table r time choice before (Ok n) after
     plays-all l m {n} mid {after} e p q =
-        let (room, number, same) : PassesBy names time false before (Fits n) mid = rw e at p in
+        let (room, number, same) : PassesBy names time false before (Some n) mid = rw e at p in
         let put = second m (rw same at q) room ∙ all-put names time before room in
-        plays (Records n) after ((λ k. record { answer = written (number k); output = put k }) ∙ sym (fits names time before room) ∙ said)
+        plays (Ok n) after ((λ k. record { answer = written (number k); output = put k }) ∙ sym (fits names time before room) ∙ said)
       where
-        second : (m : Length) → PassesBy names time true before m after → 5 * length names ≤ length before → after ≡ sets before 0 (records_of time names)
-        second (Fits k) t room = t.2
-        second Longer t room = absurd (omega (arith, t.0, room))
-
--- ---- a length by the number of its variant
-
-pub is-longer : (l : Length) → tag_of the_type l ≡ 1 → l ≡ Longer
-is-longer (Fits n) e = absurd (zero_one e)
-is-longer Longer e = refl
+        second : (m : Option ℕ) → PassesBy names time true before m after → 5 * length names ≤ length before → after ≡ sets before 0 (records_of time names)
+        second (Some k) t room = t.2
+        second None t room = absurd (omega (arith, t.0, room))

@@ -3,12 +3,15 @@
 use mathlib.Core.Path.{◌≡◌, refl, sym, ◌∙◌, ap}
 use mathlib.Core.Logic.{◌≢◌}
 use mathlib.Core.Bool.{Bool, true, false, cond, not, ◌&&◌, ◌||◌}
-use Prim.Native.Nat.{ℕ, zero, suc, ◌+◌, ◌-◌, ◌%◌, ◌≤◌, ◌<◌}
+use Prim.Native.Nat.{ℕ, zero, suc, ◌+◌, ◌-◌, ◌%◌, ◌<◌}
 use native.Mathlib.Nat.{add-zero}
 use native.Mathlib.Omega.{arith}
 use lib.Dec.{ltb}
-use lib.ListN.{length, get_or}
-use borrow.Author.Tests.{ne_eqb}
+use lib.ListN.{length, get_or, set}
+use lib.Seq.{ext_get_or, get_or-set_same, get_or-set_other}
+use mathlib.Core.List.{List}
+use Rattle.std.proofs.Common.{below_more}
+use Rattle.std.specs.Prelude.{Some}
 use Rattle.pattern.specs.Meaning.{Range}
 use Rattle.layout.specs.Pages.{no_range}
 use Rattle.tables.specs.Cells.{first_from}
@@ -33,6 +36,17 @@ module _ {A : Type 0} (g : ℕ → A) where
   pub listed_at : (d : A) (n i : ℕ) → i < n → get_or (listed g 0 n) i d ≡ g i
   listed_at d n i h = let z : 0 + i ≡ i = omega arith in get_d-listed d 0 n i h ∙ ap g z
 
+-- a list of n numbers, each known by its place
+pub all-listed : (g : ℕ → ℕ) (l : List ℕ) (n : ℕ) → length l ≡ n → ((k : ℕ) → k < n → get_or l k 0 ≡ g k) → l ≡ listed g 0 n
+all-listed g l n e same = ext_get_or 0 l (listed g 0 n) (e ∙ sym (length-listed g 0 n)) (λ k h. let m : k < n = omega (arith, h, e) in same k m ∙ sym (listed_at g 0 n k m))
+
+-- one more of them is set at its place
+pub one-more : (g : ℕ → ℕ) (l : List ℕ) (i x : ℕ) → i < length l → ((k : ℕ) → k < i → get_or l k 0 ≡ g k) → x ≡ g i → (k : ℕ) → k < i + 1 → get_or (set l i x) k 0 ≡ g k
+one-more g l i x h same e =
+    below_more _ _
+    (λ k b. let d : k ≢ i = omega (arith, b) in get_or-set_other l i k x 0 d ∙ same k b)
+    (get_or-set_same l i x 0 h ∙ e)
+
 -- ---- the ranges of a fragment by its cells
 
 module _ (x : Ranges) where
@@ -46,8 +60,8 @@ module _ (x : Ranges) where
 
 module _ (x : Ranges) (s : Filling) where
   -- the last block
-  pub enough-last : s.last ≤ size_by x → s.last ≢ 0 → enough_for (range_by x (s.last - 1)) (count_of s (s.last - 1)) ≡ may_change (fragment_by x) s
-  enough-last l some = rw (ne_eqb s.last 0 some) (ap (λ (r : Range). enough_for r (count_of s (s.last - 1))) (sym (range-is x (s.last - 1) (omega (arith, l, some)))))
+  pub enough-last : (l : ℕ) → l < size_by x → s.last ≡ Some l → enough_for (range_by x l) (count_of s l) ≡ may_change (fragment_by x) s
+  enough-last l h e = rw e (ap (λ (r : Range). enough_for r (count_of s l)) (sym (range-is x l h)))
 
   -- a range's block, that goes on or begins
   module _ (i : ℕ) (h : i < size_by x) where

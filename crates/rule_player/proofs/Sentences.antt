@@ -6,6 +6,7 @@ use mathlib.Core.List.{List, ◌++◌}
 use Prim.Native.Nat.{ℕ, ◌*◌, ◌≤◌, ◌<◌}
 use lib.ListN.{length, drop}
 use borrow.Author.Tests.{lt-ltb}
+use Rattle.std.specs.Prelude.{Result}
 use Rattle.pattern.specs.Meaning.{WellFormed, Rule}
 use Rattle.pattern.specs.Judge.{Oracle, Right, nothing, judge_keeps}
 use Rattle.pattern.specs.Model.{fresh_monitor, monitor_after}
@@ -18,7 +19,7 @@ use Rattle.layout.proofs.Accepted.{rule-formed}
 use Rattle.book.specs.declared.Book.{Book}
 use Rattle.book.specs.Looks.{Looks}
 use Rattle.store.specs.Answers.{written}
-use Rattle.rule_player.specs.declared.Played.{Played}
+use Rattle.rule_player.specs.declared.Refusal.{Refusal}
 use Rattle.rule_player.specs.Choice.{chosen}
 use Rattle.rule_player.specs.Rounds.{Round, events_at, fed, Spares}
 use Rattle.rule_player.specs.Playing.{answer_of, Playing, records_of, writing, playing_of, Plays}
@@ -31,7 +32,7 @@ module _ (S : Sheet) (b : Book) (formed : WellFormedSheet S) (looks : Looks S b)
   rule = rule_at S.rules r
 
   -- the call with the sheet's book plays the round that the bytes pick
-  pub plays-chosen : {time : ℕ} {choice before : List ℕ} {answer : Played} {after : List ℕ} → Plays b.table r time choice before answer after
+  pub plays-chosen : {time : ℕ} {choice before : List ℕ} {answer : Result ℕ Refusal} {after : List ℕ} → Plays b.table r time choice before answer after
       → record { answer = answer_of answer; output = after } ≡ playing_of (some (chosen (rule_at S.rules r) choice)) time before
   plays-chosen {time} {choice} {before} p =
       let e : p.names ≡ some (chosen rule choice) = p.own S b formed looks refl ∙ rw (lt-ltb r (length S.rules) here) refl in
@@ -39,7 +40,7 @@ module _ (S : Sheet) (b : Book) (formed : WellFormedSheet S) (looks : Looks S b)
 
   -- "Every round of the rule at that time that fits the output is written for some choice bytes"
   pub every-round-is-written : (time : ℕ) (names before : List ℕ) → Round (rule_at S.rules r) (events_at time names) → 5 * length names ≤ length before
-      → (choice : List ℕ) × Bytes choice × ((answer : Played) (after : List ℕ) → Plays b.table r time choice before answer after
+      → (choice : List ℕ) × Bytes choice × ((answer : Result ℕ Refusal) (after : List ℕ) → Plays b.table r time choice before answer after
       → (answer_of answer ≡ written (length names)) × (after ≡ records_of time names ++ drop (5 * length names) before))
   every-round-is-written time names before round room =
       let (choice, bytes, e) = every-round-is-chosen rule (rule-formed S formed r here) time names round in (

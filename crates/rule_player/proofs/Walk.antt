@@ -1,7 +1,7 @@
 -- A round ends: each step takes a byte, or fills a range below its u, or is the first of its fragment, or leaves it, so that `steps` falls. More steps say nothing more, and a missing byte is a 0.
 -- Assumes nothing.
 use mathlib.Core.Path.{◌≡◌, refl, sym, ◌∙◌, ap}
-use mathlib.Core.Logic.{inl, inr, ◌≢◌}
+use mathlib.Core.Logic.{◌⊎◌, inl, inr}
 use mathlib.Core.Bool.{Bool, true, false, cond, not, true≢false, and-eq-true_iff}
 use mathlib.Core.List.{List, [], ◌∷◌, ◌++◌, append-nil}
 use Prim.Native.Nat.{ℕ, zero, suc, ◌+◌, ◌-◌, ◌%◌, ◌≤◌, ◌<◌}
@@ -10,7 +10,9 @@ use native.Mathlib.Omega.{arith}
 use lib.Dec.{ltb, eqb}
 use lib.ListN.{length, get_or, set, replicate, length-set, length-append}
 use lib.Seq.{get_or-set_same}
-use borrow.Author.Tests.{eq-eqb, ne_eqb, ltb-true, ltb-false, leb-false, not-true}
+use borrow.Author.Tests.{eq-eqb, eqb-true, ltb-true, ltb-false, leb-false, not-true}
+use Rattle.std.specs.Prelude.{Option, Some, None, is_some, is_none}
+use Rattle.std.specs.Option.{option_eq}
 use Rattle.pattern.specs.Lists.{Each}
 use Rattle.pattern.specs.Meaning.{Fragment, Rule, WellFormedFragment, WellFormed}
 use Rattle.pattern.specs.Model.{round_of}
@@ -29,6 +31,22 @@ Small = Each (λ (f : Fragment). length f.ranges ≤ 8)
 
 abbrev standing : List Fragment → Filling → List ℕ → Stand
 standing fs s bytes = record { fragments = fs; filling = s; bytes = bytes }
+
+-- ---- which range's name came last, if any has
+
+pub some-or-none : (o : Option ℕ) → (o ≡ None) ⊎ ((l : ℕ) × (o ≡ Some l))
+some-or-none None = inl refl
+some-or-none (Some l) = inr (l, refl)
+
+pub some≢none : {l : ℕ} → ◌≡◌ {A = Option ℕ} (Some l) None → ⊥
+some≢none e = let q : ◌≡◌ {A = ℕ} 0 1 = cc in zero_one q
+
+pub same-some : {k l : ℕ} → ◌≡◌ {A = Option ℕ} (Some k) (Some l) → k ≡ l
+same-some e = cc
+
+pub the-last-is : (o : Option ℕ) (k : ℕ) → option_eq eqb o (Some k) ≡ true → o ≡ Some k
+the-last-is None k e = absurd (true≢false (sym e))
+the-last-is (Some l) k e = ap Some (eqb-true l k e)
 
 -- ---- sums
 
@@ -63,18 +81,15 @@ module _ (f : Fragment) (s : Filling) where
   lacks_less : (i j : ℕ) → lacks (comes s i) j ≤ lacks s j
   lacks_less i j = omega (arith, set-grows s.counts i j)
 
-  comes-begins : (i : ℕ) → eqb (comes s i).last 0 ≡ false
-  comes-begins i = ne_eqb (suc i) 0 (λ q. omega arith)
-
   -- no more than before; and less, where it is the first of its fragment
-  lack-keeps : (i : ℕ) → lack_in f (comes s i) + cond (eqb s.last 0) 1 0 ≤ lack_in f s
-  lack-keeps i = rw (comes-begins i) (omega (arith, sum-keeps (lacks s) (lacks (comes s i)) (lacks_less i) count))
+  lack-keeps : (i : ℕ) → lack_in f (comes s i) + cond (is_none s.last) 1 0 ≤ lack_in f s
+  lack-keeps i = omega (arith, sum-keeps (lacks s) (lacks (comes s i)) (lacks_less i) count)
 
   -- and where there were not enough of it
   lack-falls : (i : ℕ) → i < count → count ≤ length s.counts → enough_of f s i ≡ false → lack_in f (comes s i) < lack_in f s
   lack-falls i l few short =
       let less : lacks (comes s i) i < lacks s i = rw (get_or-set_same s.counts i (suc (count_of s i)) 0 (omega arith)) (omega (arith, leb-false (range_of f i).u (count_of s i) short)) in
-      rw (comes-begins i) (omega (arith, sum-falls (lacks s) (lacks (comes s i)) (lacks_less i) count i l less))
+      omega (arith, sum-falls (lacks s) (lacks (comes s i)) (lacks_less i) count i l less)
 
   -- ---- what must come
 
@@ -101,7 +116,7 @@ module _ (f : Fragment) (s : Filling) where
       none a = true≢false (sym q ∙ first-before (is_short f s false) 0 count l (omega arith) (omega arith))
 
   -- where something has come and the fragment may not be left, it is short
-  pub needed-short : s.last ≢ 0 → may_end f s ≡ false → (needed f s < length f.ranges) × (enough_of f s (needed f s) ≡ false)
+  pub needed-short : is_some s.last ≡ true → may_end f s ≡ false → (needed f s < length f.ranges) × (enough_of f s (needed f s) ≡ false)
   needed-short begun ends = needed-is (λ i. (i < count) × (enough_of f s i ≡ false)) (λ l. (l, short false l)) (λ p l. (l, short true l)) (λ p q. absurd (left p q))
     where
       short : (every : Bool) → first_short f s every < count → enough_of f s (first_short f s every) ≡ false
@@ -113,7 +128,7 @@ module _ (f : Fragment) (s : Filling) where
 
       -- else no range is short, and the fragment may be left
       left : count ≤ first_short f s false → count ≤ first_short f s true → ⊥
-      left p q = true≢false (rw (ne_eqb s.last 0 begun, eq-eqb _ _ (past (needs_every f) p q)) at ends)
+      left p q = true≢false (rw (begun, eq-eqb _ _ (past (needs_every f) p q)) at ends)
 
   -- ---- a step: the fragment is left, what must come does, or what the byte says
 
@@ -158,9 +173,9 @@ module _ (f : Fragment) (fs : List Fragment) (s : Filling) (bytes : List ℕ) (s
       (λ i l b e. omega (arith, taken bytes b, lack-keeps f s i))
     where
       nearer : may_end f s ≡ false → lack_in f (comes s (needed f s)) < lack_in f s
-      nearer ends = elim (same? s.last 0) [
-        | inl e ↦ rw (eq-eqb s.last 0 e) (omega (arith, rw (eq-eqb s.last 0 e) at (lack-keeps f s (needed f s))))
-        | inr d ↦ let (l, short) = needed-short f s d ends in lack-falls f s (needed f s) l (omega (arith, small.0)) short
+      nearer ends = elim (some-or-none s.last) [
+        | inl e ↦ rw e (omega (arith, rw e at (lack-keeps f s (needed f s))))
+        | inr d ↦ let (l, short) = needed-short f s (rw d.1 refl) ends in lack-falls f s (needed f s) l (omega (arith, small.0)) short
       ]
 
 -- ---- steps enough, and a missing byte is a 0

@@ -1,7 +1,8 @@
 -- Which round some choice bytes pick (document 02, change 5): "Every choice gives a round that matches, missing choice bytes counting as 0; which bytes pick which round is the builder's, written in
 -- docs/". docs/PLAYING.md says it in words. It is a function of the round's fragments and of the bytes alone: one byte a step, and a step is a name that comes, or the end of a fragment.
 -- Assumes nothing.
-use Rattle.std.specs.Prelude.{Bool, true, false, cond, not, ◌&&◌, ◌||◌, List, [], ◌∷◌, ◌++◌, ℕ, zero, suc, ◌+◌, ◌-◌, ◌%◌, ltb, eqb, length, get_or, set, replicate}
+use Rattle.std.specs.Prelude.{Bool, true, false, cond, not, ◌&&◌, ◌||◌, Option, Some, None, is_some, is_none, List, [], ◌∷◌, ◌++◌, ℕ, zero, suc, ◌+◌, ◌-◌, ◌%◌, ltb, eqb, length, get_or, set, replicate}
+use Rattle.std.specs.Option.{option_eq}
 use Rattle.pattern.specs.Meaning.{Range, may_be_left_out, shuffled, Fragment, Rule}
 use Rattle.pattern.specs.Recogniser.{has_enough, has_room}
 use Rattle.pattern.specs.Model.{round_of}
@@ -11,17 +12,17 @@ use Rattle.rule_player.specs.declared.Filling.{Filling}
 use Rattle.rule_player.specs.declared.Step.{Step}
 use Rattle.rule_player.specs.declared.Step.TheVariants.{Name, Leave}
 
--- ---- filling a fragment: how often each of its names has come, and which came last, 0 if nothing has come, else the range's number and 1
+-- ---- filling a fragment: how often each of its names has come, and which range's came last, if any has
 
 abbrev pub empty : Filling
-empty = record { counts = replicate 8 0; last = 0 }
+empty = record { counts = replicate 8 0; last = None }
 
 abbrev pub count_of : Filling → ℕ → ℕ
 count_of s i = get_or s.counts i 0
 
 -- the name of range i comes
 abbrev pub comes : Filling → ℕ → Filling
-comes s i = record { counts = set s.counts i (suc (count_of s i)); last = suc i }
+comes s i = record { counts = set s.counts i (suc (count_of s i)); last = Some i }
 
 -- it has not come in this fragment
 abbrev pub is_new : Filling → ℕ → Bool
@@ -43,10 +44,14 @@ module _ (f : Fragment) where
 
   -- range i's block goes on: blocks are shuffled, or it came last. Or it begins: it is new, and nothing has come, or the last block has enough
   abbrev pub goes_on : Filling → ℕ → Bool
-  goes_on s i = shuffled f.join || eqb s.last (suc i)
+  goes_on s i = shuffled f.join || option_eq eqb s.last (Some i)
+
+  abbrev pub may_follow : Filling → Option ℕ → Bool
+  may_follow s None = true
+  may_follow s (Some l) = enough_of s l
 
   abbrev pub may_change : Filling → Bool
-  may_change s = eqb s.last 0 || enough_of s (s.last - 1)
+  may_change s = may_follow s s.last
 
   -- range i's name may come now: it goes on and has room, or it may begin
   abbrev pub may_come : Filling → ℕ → Bool
@@ -65,7 +70,7 @@ module _ (f : Fragment) where
 
   -- the fragment may be left: something has come, and each range has enough, or has not come and may be left out
   abbrev pub may_end : Filling → Bool
-  may_end s = not (eqb s.last 0) && eqb (first_short s needs_every) (length f.ranges)
+  may_end s = is_some s.last && eqb (first_short s needs_every) (length f.ranges)
 
   -- i if it is a range's number, else the other
   abbrev pub within : ℕ → ℕ → ℕ
@@ -143,7 +148,7 @@ sum_to g zero = 0
 sum_to g (suc n) = sum_to g n + g n
 
 abbrev pub lack_in : Fragment → Filling → ℕ
-lack_in f s = cond (eqb s.last 0) 1 0 + sum_to (λ (i : ℕ). (range_of f i).u - count_of s i) (length f.ranges)
+lack_in f s = cond (is_none s.last) 1 0 + sum_to (λ (i : ℕ). (range_of f i).u - count_of s i) (length f.ranges)
 
 abbrev pub lack_at : List Fragment → Filling → ℕ
 lack_at [] s = 0

@@ -1,6 +1,6 @@
 -- Playing a round (document 02, change 5): "Given a book, a rule number, a time, lent choice bytes and an output, write one round of that rule as log records, all at that time."
 -- Assumes nothing.
-use Rattle.std.specs.Prelude.{◌≡◌, cond, List, ◌++◌, ℕ, ◌*◌, ltb, length, drop}
+use Rattle.std.specs.Prelude.{◌≡◌, cond, Result, Ok, Err, List, ◌++◌, ℕ, ◌*◌, ltb, length, drop}
 use Rattle.std.proofs.Math.Option.{Option, none, some}
 use Rattle.pattern.specs.Meaning.{Rule}
 use Rattle.layout.specs.Layout.{Sheet, le, each, WellFormedSheet}
@@ -8,17 +8,17 @@ use Rattle.layout.specs.Pages.{rule_at}
 use Rattle.book.specs.Looks.{Looks}
 use Rattle.book.specs.declared.Book.{Book}
 use Rattle.store.specs.Answers.{Answer, written, refused}
-use Rattle.rule_player.specs.declared.Played.{Played}
-use Rattle.rule_player.specs.declared.Played.TheVariants.{Records, NoRule, TooLong}
+use Rattle.rule_player.specs.declared.Refusal.{Refusal}
+use Rattle.rule_player.specs.declared.Refusal.TheVariants.{NoRule, TooLong}
 use Rattle.rule_player.specs.Choice.{chosen}
 
 -- ---- what a call answers
 
 -- document 02's number for each case of the code's answer
-abbrev pub answer_of : Played → Answer
-answer_of (Records n) = written n
-answer_of NoRule = refused 17
-answer_of TooLong = refused 18
+abbrev pub answer_of : Result ℕ Refusal → Answer
+answer_of (Ok n) = written n
+answer_of (Err NoRule) = refused 17
+answer_of (Err TooLong) = refused 18
 
 -- ---- the call
 
@@ -48,7 +48,7 @@ abbrev pub chosen_of : List Rule → ℕ → List ℕ → Option (List ℕ)
 chosen_of rules r choice = cond (ltb r (length rules)) (some (chosen (rule_at rules r) choice)) none
 
 -- the promise: whatever the table, the call is one for some names or none, and for the table of a sheet's book these are the chosen round's
-pub record Plays (table : List ℕ) (r time : ℕ) (choice before : List ℕ) (answer : Played) (after : List ℕ) : Type 0 where
+pub record Plays (table : List ℕ) (r time : ℕ) (choice before : List ℕ) (answer : Result ℕ Refusal) (after : List ℕ) : Type 0 where
   pub names : Option (List ℕ)
   pub call : record { answer = answer_of answer; output = after } ≡ playing_of names time before
   pub own : (S : Sheet) (b : Book) → WellFormedSheet S → Looks S b → b.table ≡ table → names ≡ chosen_of S.rules r choice

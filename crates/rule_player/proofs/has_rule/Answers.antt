@@ -6,5 +6,5 @@ use Rattle.rule_player.proofs.has_rule.Goals as goal
 pub returns-then-r-lt16 : goal.returns-then-r-lt16
 returns-then-r-lt16 c = rw (lt-ltb c.args.rule 16 (omega (arith, c.if-r-lt16.true)))
 
-pub returns : goal.returns
-returns c = rw (le-ltb c.args.rule 16 (omega (arith, c.if-r-lt16.false)))
+pub returns-else-r-lt16 : goal.returns-else-r-lt16
+returns-else-r-lt16 c = rw (le-ltb c.args.rule 16 (omega (arith, c.if-r-lt16.false)))

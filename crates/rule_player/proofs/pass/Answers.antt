@@ -1,7 +1,12 @@
 -- `rule_player::pass` meets its contract. The loop's invariant is `Passing`: it stands where the definition does; records and fragments left get fewer. Assumes nothing.
-use mathlib.Core.Path.{ap}
+use mathlib.Core.Path.{◌∙◌, ap}
+use mathlib.Core.List.{List}
+use Prim.Native.Nat.{ℕ}
 use native.Mathlib.Numerals.{add-one}
 use native.Mathlib.Omega.{arith}
+use lib.ListN.{get_or}
+use Rattle.tables.specs.Words.{round_in}
+use Rattle.tables.specs.Cells.{head_at}
 use Rattle.tables.proofs.Bounds.{round-small}
 use Rattle.rule_player.specs.Said.{ranges_at}
 use Rattle.rule_player.proofs.Passing.{taken_is, passing-start, passing-end, inside, passing-longer, passing-name, passing-leave, same-long}
@@ -10,20 +15,17 @@ use Rattle.rule_player.proofs.pass.Goals as goal
 
 pub loop-f-init : goal.loop-f-init
 loop-f-init c =
-    let head = c.fragments_in_round-fragments.ensures in
-    let s = c.args in (
+    let s = c.args in
+    let head = c.fragments_in_round-fragments.ensures ∙ ap (λ (t : List ℕ). round_in (get_or t (head_at s.r) 0)) c.table.ensures in (
       head,
       rw head (round-small _),
       c.room_in-room.ensures,
       search rules,
-      rw (c.ranges_at-x.ensures, c.empty-s.ensures) (passing-start s.table.now s.r s.time s.choice.now s.writes s.out.now),
+      rw (c.new-turn.ensures.0, c.new-turn.ensures.1) (passing-start s.places.now s.r s.time s.choice.now s.writes s.out.now),
     )
 
 pub overflow_add-n : goal.overflow_add-n
 overflow_add-n c = omega (arith, c.loop-f.invariant.4.few, c.loop-f.invariant)
-
-pub step_by-step-requires : goal.step_by-step-requires
-step_by-step-requires c = c.loop-f.invariant.4.last
 
 pub shape_of-out-then-n-room : goal.shape_of-out-then-n-room
 shape_of-out-then-n-room c = same-long _ _ _ _ _ _ c.loop-f.invariant.4
@@ -35,8 +37,8 @@ returns-then-n-room c =
     let step = taken_is _ _ _ _ _ _ p c.step_by-step.ensures c.byte_at.ensures c.in-Name.is in
     passing-longer _ _ _ _ _ _ p (omega (arith, c.loop-f-test.true, c.loop-f.invariant.0)) i step (omega (arith, c.if-n-room.true, c.loop-f.invariant.2))
 
-pub bounds-names_here-i : goal.bounds-names_here-i
-bounds-names_here-i c =
+pub bounds-turn-i : goal.bounds-turn-i
+bounds-turn-i c =
     let p = c.loop-f.invariant.4 in
     let i = c.in-Name.i in
     let step = taken_is _ _ _ _ _ _ p c.step_by-step.ensures c.byte_at.ensures c.in-Name.is in
@@ -48,13 +50,13 @@ put_record-requires c =
     let here = c.loop-f-test.true in
     omega (arith, p.few, c.loop-f.invariant.2, same-long _ _ _ _ _ _ p, c.if-n-room.false)
 
-pub comes-s-requires : goal.comes-s-requires
-comes-s-requires c =
+pub take-requires : goal.take-requires
+take-requires c =
     let p = c.loop-f.invariant.4 in
     let i = c.in-Name.i in
     let step = taken_is _ _ _ _ _ _ p c.step_by-step.ensures c.byte_at.ensures c.in-Name.is in
     let within = inside _ _ _ _ _ _ p (omega (arith, c.loop-f-test.true, c.loop-f.invariant.0)) i step in
-    (omega (arith, within), omega (arith, p.bound i, p.few, c.loop-f.invariant.2, c.loop-f.invariant.3))
+    (within, omega (arith, p.bound i, p.few, c.loop-f.invariant.2, c.loop-f.invariant.3))
 
 pub overflow_add-n-in-Name : goal.overflow_add-n-in-Name
 overflow_add-n-in-Name c =
@@ -77,11 +79,11 @@ loop-f-preserved-in-Name c =
     let more = passing-name _ _ _ _ _ _ p (omega (arith, c.loop-f-test.true, c.loop-f.invariant.0)) i step
     (omega (arith, p.few, c.loop-f.invariant.2, c.if-n-room.false)) in
     let (a, b, d, e, q) = c.loop-f.invariant in
-    (a, b, d, e, rw (add-one, c.comes-s.ensures, put) more)
+    (a, b, d, e, rw (add-one, c.take.ensures.0, c.take.ensures.1, put) more)
 
-pub ranges_at-x-requires-in-Leave : goal.ranges_at-x-requires-in-Leave
-ranges_at-x-requires-in-Leave c =
-    (c.requires.0, c.requires.1, omega arith)
+pub new-turn-requires-in-Leave : goal.new-turn-requires-in-Leave
+new-turn-requires-in-Leave c =
+    (c.requires, omega arith)
 
 pub loop-f-smaller : goal.loop-f-smaller
 loop-f-smaller c = omega (arith, c.loop-f-test.true)
@@ -93,7 +95,7 @@ loop-f-preserved c =
     let step = taken_is _ _ _ _ _ _ p c.step_by-step.ensures c.byte_at.ensures c.in-Leave.is in
     let (a, b, d, e, q) = c.loop-f.invariant in
     let there = passing-leave _ _ _ _ _ _ p (omega (arith, c.loop-f-test.true, a)) step in
-    (a, b, d, e, rw (add-one, c.empty-s-in-Leave.ensures, c.ranges_at-x-in-Leave.ensures) (there (λ h. ap (ranges_at s.table.now s.r) (omega (arith, h, a, b)))))
+    (a, b, d, e, rw (add-one, c.new-turn-in-Leave.ensures.0, c.new-turn-in-Leave.ensures.1) (there (λ h. ap (ranges_at s.places.now s.r) (omega (arith, h, a, b)))))
 
 pub shape_of-out : goal.shape_of-out
 shape_of-out c = same-long _ _ _ _ _ _ c.loop-f.invariant.4

@@ -7,8 +7,8 @@ use Rattle.rule_player.proofs.pass.Given as goal
 
 abbrev pub invariant-loop-f : goal.invariant-loop-f
 invariant-loop-f l =
-    (l.fragments ≡ fragment_count l.table l.r l.time l.choice l.writes l.initial.out) × (l.fragments ≤ 16) × (l.room ≡ length l.initial.out / 5) × (l.room < 4000000000000000000)
-    × Passing l.table l.r l.time l.choice l.writes l.initial.out l.n l.f l.x l.s l.out
+    (l.fragments ≡ fragment_count l.places l.r l.time l.choice l.writes l.initial.out) × (l.fragments ≤ 16) × (l.room ≡ length l.initial.out / 5) × (l.room < 4000000000000000000)
+    × Passing l.places l.r l.time l.choice l.writes l.initial.out l.n l.f l.turn.ranges l.turn.filling l.out
 
 abbrev pub decreases-loop-f : goal.decreases-loop-f
 decreases-loop-f l = (l.room - l.n) + (l.fragments - l.f)

@@ -12,26 +12,26 @@ pass-length-requires c =
     let s = c.args in
     let gave : c.has_rule.result ≡ true = assumption in
     let has = sym c.has_rule.ensures ∙ gave in
-    (c.places-names.ensures, of-sixteen s.table.now s.rule s.time s.choice.now s.out.now has)
+    of-sixteen s.table.now s.rule s.time s.choice.now s.out.now has
 
 pub pass-requires : goal.pass-requires
 pass-requires c =
     let s = c.args in
     let gave : c.has_rule.result ≡ true = assumption in
     let has = sym c.has_rule.ensures ∙ gave in
-    (c.places-names.ensures, of-sixteen s.table.now s.rule s.time s.choice.now s.out.now has)
+    of-sixteen s.table.now s.rule s.time s.choice.now s.out.now has
 
-pub returns-in-Longer : goal.returns-in-Longer
-returns-in-Longer c =
+pub returns-in-None : goal.returns-in-None
+returns-in-None c =
     let s = c.args in
     let gave : c.has_rule.result ≡ true = assumption in
     let has = sym c.has_rule.ensures ∙ gave in
-    plays-longer s.table.now s.rule s.time s.choice.now s.out.now has c.pass-length.result c.in-Longer.is c.pass-length.ensures
+    plays-longer s.table.now s.rule s.time s.choice.now s.out.now has c.pass-length.result c.in-None.is (rw c.new-places.ensures at c.pass-length.ensures)
 
-pub returns-in-Fits : goal.returns-in-Fits
-returns-in-Fits c =
+pub returns-in-Some : goal.returns-in-Some
+returns-in-Some c =
     let s = c.args in
     let gave : c.has_rule.result ≡ true = assumption in
     let has = sym c.has_rule.ensures ∙ gave in
     plays-all s.table.now s.rule s.time s.choice.now s.out.now has c.pass-length.result c.pass.result c.pass-length.new.out
-    c.in-Fits.is c.pass-length.ensures c.pass.ensures
+    c.in-Some.is (rw c.new-places.ensures at c.pass-length.ensures) (rw c.new-places.ensures at c.pass.ensures)

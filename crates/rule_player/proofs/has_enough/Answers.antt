@@ -1,5 +1,0 @@
--- `rule_player::has_enough` meets its contract. Assumes nothing.
-use Rattle.rule_player.proofs.has_enough.Goals as goal
-
-pub returns : goal.returns
-returns c = rw c.least_in.ensures

@@ -1,5 +1,0 @@
--- `rule_player::has_room` meets its contract. Assumes nothing.
-use Rattle.rule_player.proofs.has_room.Goals as goal
-
-pub returns : goal.returns
-returns c = rw c.most_in-most.ensures
