@@ -5,7 +5,7 @@ ghost use Rattle.std.specs.Prelude.{◌≡◌};
 ghost use Rattle.monitor.specs.Promise.{Observes, Says};
 ghost use Rattle.value.specs.Value.{numbers_of, by_value};
 
-use answers::{Answer, Observation};
+use answers::{Observation, Verdict};
 use tables::Table;
 use value::{Answered, Monitor};
 
@@ -15,14 +15,11 @@ pub fn observed(m: Monitor, table: &Table, o: Observation) -> Answered
 {
     let mut s = m;
     let answer = session::observe(&mut s, table, o);
-    Answered {
-        monitor: s,
-        answer: answer,
-    }
+    Answered { monitor: s, answer }
 }
 
 // The verdict that the monitor which is handed over holds: a local is lent to be read.
-pub fn verdict_of(m: Monitor) -> Answer
+pub fn verdict_of(m: Monitor) -> Verdict
     ensures { Says result (numbers_of m) }
 {
     let s = m;

@@ -8,20 +8,12 @@ ghost use Rattle.records.specs.Records.{observation, record_from};
 
 use answers::Observation;
 
-fn wide(x: u8) -> u32
-    ensures { (result ≡ x) × (result < 256) }
-{
-    x as u32
-}
-
 // A time, a u32: the four bytes from an offset on, little-endian.
 fn time_at(log: &[u8], at: usize) -> u32
     requires { at + 4 ≤ length log.now }
     ensures { result ≡ number log.now 4 at }
 {
-    let low = wide(log[at]) + 256 * wide(log[at + 1]);
-    let high = wide(log[at + 2]) + 256 * wide(log[at + 3]);
-    low + 65536 * high
+    u32::from_le_bytes([log[at], log[at + 1], log[at + 2], log[at + 3]])
 }
 
 // "a name 0 to 63 or FF for a clock reading"; 64 to 254 are names that observing refuses.
@@ -29,9 +21,8 @@ fn observation(name: u8, time: u32) -> Observation
     ensures { seen result ≡ observation name time }
 {
     match name {
-        0..=63 => Observation::Event(name, time),
-        64..=254 => Observation::Event(name, time),
         255 => Observation::Clock(time),
+        _ => Observation::Event(name, time),
     }
 }
 

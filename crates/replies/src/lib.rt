@@ -3,38 +3,33 @@
 #![tactic(auto)]
 
 ghost use Rattle.std.specs.Prelude.{◌≡◌};
-ghost use Rattle.pattern.specs.Judge.{some_open, broken_at};
 ghost use Rattle.pattern.specs.Values.{verdict_values, refused_values};
-ghost use Rattle.answers.specs.Cases.{values_of};
+ghost use Rattle.answers.specs.Cases.{said, values_of};
 ghost use Rattle.replies.specs.Replies.{word_of};
 
-use answers::Answer;
+use answers::{Answer, Verdict};
 
 pub fn refused_word(number: u8, place: u32) -> u64
     ensures { result ≡ word_of (refused_values number place) }
 {
-    3 + 256 * (number as u64) + 4294967296 * (place as u64)
+    3 + 256 * u64::from(number) + 4294967296 * u64::from(place)
 }
 
-fn open_word(mask: u16) -> u64
-    ensures { result ≡ word_of (verdict_values (some_open mask)) }
+pub fn verdict_word(v: Verdict) -> u64
+    ensures { result ≡ word_of (verdict_values (said v)) }
 {
-    1 + 65536 * (mask as u64)
-}
-
-fn broken_word(k: u32, mask: u16) -> u64
-    ensures { result ≡ word_of (verdict_values (broken_at k mask)) }
-{
-    2 + 65536 * (mask as u64) + 4294967296 * (k as u64)
+    match v {
+        Verdict::Whole => 0,
+        Verdict::Open(mask) => 1 + 65536 * u64::from(mask),
+        Verdict::Broken(k, mask) => 2 + 65536 * u64::from(mask) + 4294967296 * u64::from(k),
+    }
 }
 
 pub fn answer_word(a: Answer) -> u64
     ensures { result ≡ word_of (values_of a) }
 {
     match a {
-        Answer::Whole => 0,
-        Answer::Open(mask) => open_word(mask),
-        Answer::Broken(k, mask) => broken_word(k, mask),
-        Answer::Refused(number) => refused_word(number, 0),
+        Ok(verdict) => verdict_word(verdict),
+        Err(why) => refused_word(why.number(), 0),
     }
 }

@@ -5,27 +5,29 @@ use mathlib.Core.Path.{◌≡◌, refl, sym, ◌∙◌, ap, subst}
 use mathlib.Core.Bool.{Bool, true, false, cond}
 use mathlib.Core.Option.{Option, none, some}
 use mathlib.Core.List.{List}
+use Rattle.std.specs.Prelude.{Some, None, Ok, Err, MatchOption}
+use Rattle.std.specs.Prelude as P
 use Prim.Native.Nat.{ℕ, suc, ◌*◌, ◌<◌}
 use native.Mathlib.Numerals.{add-one}
 use native.Mathlib.Omega.{arith}
 use lib.Dec.{eqb}
 use borrow.Author.Count.{below_more}
 use borrow.Author.Tests.{ne_eqb}
-use Rattle.pattern.specs.Judge.{all_whole, some_open, broken_at, time_of, refusal}
+use Rattle.pattern.specs.Judge.{Verdict, all_whole, some_open, broken_at, time_of, refusal}
 use Rattle.words.specs.Words.{Held, held_by, Fits}
 use Rattle.opening.specs.Fresh.{fresh_held}
 use Rattle.answers.specs.Observe.{Observed, refused_of}
 use Rattle.answers.specs.Every.{Counted}
 use Rattle.answers.proofs.Every.{every-monitor}
 use Rattle.answers.specs.declared.Observation.{Observation}
-use Rattle.answers.specs.declared.Answer.{Answer}
-use Rattle.answers.specs.declared.Answer.TheVariants.{Whole, Open, Broken, Refused}
+use Rattle.answers.specs.Cases.{Answer, number_of}
+use Rattle.answers.specs.declared.Verdict.TheVariants.{Whole, Open, Broken}
+use Rattle.answers.specs.declared.Refusal.{Refusal}
 use Rattle.monitor.specs.Promise.{seen, verdict_in, in_memory, Freshes}
 use Rattle.records.specs.Records.{record_at}
 use Rattle.runner.specs.Log.{ended, refused_at}
-use Rattle.runner.specs.Runs.{time_before, Accepted, Ends, Played, stays-whole, stays_open, breaks, refuses, stops_at, SaysAt, Turns, ended_in}
+use Rattle.runner.specs.Runs.{time_before, Accepted, Ends, Played, stays-whole, stays_open, breaks, refuses, stopped_at, Turns, ended_in}
 use Rattle.runner.specs.declared.Outcome.{Outcome}
-use Rattle.runner.specs.declared.Turned.{Turned}
 
 pub record Going (log m : List ℕ) (i : ℕ) : Type 0 where
   pub fits : Fits m
@@ -59,7 +61,7 @@ going_done {log} {m} {i} {r} g e = look (eqb (held_by m).verdict 1) (e ∙ rw (n
     look true q = played g.accepted (ap (λ (x : Outcome). x.taken) q) (stays_open (held_by m).mask q)
     look false q = played g.accepted (ap (λ (x : Outcome). x.taken) q) (stays-whole q)
 
-module _ {table log m after : List ℕ} {i n : ℕ} {o : Observation} {t : Turned} (g : Going log m i) (h : i < n) (is : seen o ≡ record_at log i) (turns : Turns table m o (5 * i) t after) where
+module _ {table log m after : List ℕ} {i n : ℕ} {o : Observation} {t : P.Option Outcome} (g : Going log m i) (h : i < n) (is : seen o ≡ record_at log i) (turns : Turns table m o (5 * i) t after) where
   more : refusal (time_before log i) i (record_at log i) ≡ none → Accepted log (suc i)
   more e = accepted-more log i g.accepted e
 
@@ -67,35 +69,38 @@ module _ {table log m after : List ℕ} {i n : ℕ} {o : Observation} {t : Turne
       → {a : Answer} → Counted (held_by m) o (record { monitor = held_by after; answer = a }) → ((held_by after).verdict ≡ 2 → ⊥) → Going log after (suc i)
   goes e c runs = record { fits = turns.observes.fits g.fits; runs = runs; taken = omega (arith, c.taken, g.taken); latest = c.latest ∙ ap time_of is; accepted = more e }
 
-  -- the run goes on, or it has stopped with this outcome
-  abbrev Next : Bool → Type 0
-  Next stops = cond stops (Played log n t.outcome) (Going log after (suc i))
+  -- the run goes on, or it has stopped with an outcome
+  abbrev Next : P.Option Outcome → Type 0
+  Next x = MatchOption x (Going log after (suc i)) (Played log n)
 
   -- by the monitor and the answer that the record leaves
   abbrev By : Observed → Type 0
-  By x = SaysAt x.answer x.monitor (5 * i) t.outcome → Next (stops_at x.answer)
+  By x = Next (stopped_at x.answer x.monitor (5 * i))
 
   by-taken : refusal (time_before log i) i (record_at log i) ≡ none
       → (a : Answer) → Counted (held_by m) o (record { monitor = held_by after; answer = a }) → By (record { monitor = held_by after; answer = a })
-  by-taken e Whole c says = goes e c (λ z. omega (arith, c.holds))
-  by-taken e (Open x) c says = goes e c (λ z. omega (arith, c.holds))
-  by-taken e (Broken k x) c says =
-      let q : t.outcome ≡ ended (broken_at (suc i) x) (suc i) = says ∙ rw (c.place refl, c.taken, g.taken, add-one) in
+  by-taken e (Ok Whole) c = goes e c (λ z. omega (arith, c.holds))
+  by-taken e (Ok (Open x)) c = goes e c (λ z. omega (arith, c.holds))
+  by-taken e (Ok (Broken k x)) c =
+      let q : ended (broken_at k x) (held_by after).taken ≡ ended (broken_at (suc i) x) (suc i) = rw (c.place refl, c.taken, g.taken, add-one) in
       played (more e) (ap (λ (r : Outcome). r.taken) q) (breaks i x h q)
-  by-taken e (Refused x) c says = absurd (omega (arith, c.verdict))
+  by-taken e (Err why) c = absurd (omega (arith, c.verdict))
 
-  by-refused : (number : ℕ) → refusal (time_before log i) i (record_at log i) ≡ some number → By (refused_of (held_by m) number)
+  by-refused : (why : Refusal) → refusal (time_before log i) i (record_at log i) ≡ some (number_of why) → By (refused_of (held_by m) why)
   unfolding refused_of
-  by-refused number e says =
-      let q : t.outcome ≡ refused_at number (verdict_in (held_by m)) i (5 * i) = says ∙ rw g.taken in
-      played g.accepted (ap (λ (r : Outcome). r.taken) q) (refuses i number (verdict_in (held_by m)) h e q)
+  by-refused why e =
+      let before : Verdict = verdict_in (held_by m) in
+      let q : refused_at (number_of why) before (held_by m).taken (5 * i) ≡ refused_at (number_of why) before i (5 * i) = rw g.taken in
+      played g.accepted (ap (λ (r : Outcome). r.taken) q) (refuses i (number_of why) before h e q)
 
   found : refusal (held_by m).latest (held_by m).taken (seen o) ≡ refusal (time_before log i) i (record_at log i)
   found = rw (g.latest, g.taken, is)
 
-  pub going_next : Next t.stops
-  going_next = rw turns.stops (look (refusal (time_before log i) i (record_at log i)) refl turns.says)
+  pub going_next : Next t
+  going_next = rw turns.says (look (refusal (time_before log i) i (record_at log i)) refl)
     where
       look : (x : Option ℕ) → refusal (time_before log i) i (record_at log i) ≡ x → By (record { monitor = held_by after; answer = turns.answer })
       look none e = by-taken e turns.answer (subst (Counted (held_by m) o) (sym (turns.observes.holds g.fits)) ((every-monitor table (held_by m) o).takes g.runs (found ∙ e)))
-      look (some number) e = subst By (sym (turns.observes.holds g.fits ∙ (every-monitor table (held_by m) o).refuses g.runs number (found ∙ e))) (by-refused number e)
+      look (some number) e =
+          let f = (every-monitor table (held_by m) o).refuses g.runs number (found ∙ e) in
+          subst By (sym (turns.observes.holds g.fits ∙ f.stays)) (by-refused f.why (e ∙ ap (λ (k : ℕ). some k) (sym f.number)))

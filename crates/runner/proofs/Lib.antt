@@ -1,4 +1,3 @@
-pub mod Saying
 pub mod Judging
 pub mod Going
 pub mod Playing

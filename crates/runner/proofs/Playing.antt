@@ -2,10 +2,9 @@
 -- was to be played: `Reached`. A turn that does not stop keeps both so; a turn that stops, and the end, give the outcome.
 -- Assumes nothing.
 use mathlib.Core.Path.{◌≡◌, refl, sym, ◌∙◌, ap, ap₂, subst}
-use mathlib.Core.Bool.{Bool, true, false, cond}
 use mathlib.Core.List.{List}
-use Prim.Native.Nat.{ℕ, suc, ◌+◌, ◌-◌, ◌*◌, ◌≤◌, ◌<◌}
-use native.Mathlib.Numerals.{add-one}
+use Rattle.std.specs.Prelude.{Option, Some, None, Ok, Err, MatchOption}
+use Prim.Native.Nat.{ℕ, suc, ◌-◌, ◌*◌, ◌≤◌, ◌<◌}
 use native.Mathlib.Omega.{arith}
 use lib.ListN.{length}
 use Rattle.pattern.specs.Judge.{Oracle, Right, all_whole, some_open, broken_at, Kept, nothing, Turn}
@@ -17,15 +16,14 @@ use Rattle.book.specs.Looks.{Looks}
 use Rattle.book.specs.declared.Book.{Book}
 use Rattle.words.specs.Words.{held_by}
 use Rattle.answers.specs.declared.Observation.{Observation}
-use Rattle.answers.specs.declared.Answer.{Answer}
-use Rattle.answers.specs.declared.Answer.TheVariants.{Whole, Open, Broken, Refused}
+use Rattle.answers.specs.Cases.{Answer, number_of}
+use Rattle.answers.specs.declared.Verdict.TheVariants.{Whole, Open, Broken}
 use Rattle.monitor.specs.Promise.{seen, values_of, verdict_in, in_memory, Follows, Freshes}
 use Rattle.monitor.proofs.Agreement.{tracks-taken, tracks-verdict}
 use Rattle.records.specs.Records.{record_at}
 use Rattle.runner.specs.Log.{ended, turn_at, play}
-use Rattle.runner.specs.Runs.{Played, Plays, stops_at, SaysAt, Turns, ended_in}
+use Rattle.runner.specs.Runs.{Played, Plays, stopped_at, Turns, ended_in}
 use Rattle.runner.specs.declared.Outcome.{Outcome}
-use Rattle.runner.specs.declared.Turned.{Turned}
 use Rattle.runner.proofs.Judging.{play-end, play_by, play-turn}
 use Rattle.runner.proofs.Going.{Going, going_start, going_done, going_next}
 
@@ -47,7 +45,7 @@ module _ {oracle : Oracle} {S : Sheet} {b : Book} {log m : List ℕ} {n i : ℕ}
   reached-done e =
       ap₂ ended verdict taken ∙ sym (p.rest ∙ ap (play oracle log p.k i) (omega arith) ∙ play-end oracle log p.k i)
 
-  module _ {table after : List ℕ} {o : Observation} {t : Turned} (h : i < n) (is : seen o ≡ record_at log i) (lent : b.table ≡ table) (right : Right S.rules oracle)
+  module _ {table after : List ℕ} {o : Observation} {t : Option Outcome} (h : i < n) (is : seen o ≡ record_at log i) (lent : b.table ≡ table) (right : Right S.rules oracle)
       (turns : Turns table m o (5 * i) t after) where
     abbrev turn : Turn
     turn = turn_at oracle log p.k i
@@ -62,17 +60,18 @@ module _ {oracle : Oracle} {S : Sheet} {b : Book} {log m : List ℕ} {n i : ℕ}
     follows = rw is at (turns.observes.follows b lent S p.k p.follows oracle right)
 
     -- after a record: what a run that stops says is what the judge's says, or the monitor follows what the judge then keeps
-    reached-next : cond t.stops (t.outcome ≡ play oracle log nothing 0 n) (Reached oracle S b log n after (suc i))
-    reached-next = rw turns.stops (look turns.answer answers turns.observes.unchanged turns.says)
+    abbrev Next : Option Outcome → Type 0
+    Next x = MatchOption x (Reached oracle S b log n after (suc i)) (λ r. r ≡ play oracle log nothing 0 n)
+
+    reached-next : Next t
+    reached-next = rw turns.says (look turns.answer answers turns.observes.unchanged)
       where
-        look : (a : Answer) → values_of a ≡ answer_values turn.answer → ((values_of a).answer ≡ 3 → after ≡ m) → SaysAt a (held_by after) (5 * i) t.outcome
-            → cond (stops_at a) (t.outcome ≡ play oracle log nothing 0 n) (Reached oracle S b log n after (suc i))
-        look Whole j u says = record { k = turn.kept; follows = follows; rest = left (same_answer_lem (J.verdict all_whole) turn.answer j) }
-        look (Open x) j u says = record { k = turn.kept; follows = follows; rest = left (same_answer_lem (J.verdict (some_open x)) turn.answer j) }
-        look (Broken k x) j u says =
-            says ∙ ap (ended (broken_at k x)) (tracks-taken S turn.kept b (held_by after) follows.tracks) ∙ sym (left (same_answer_lem (J.verdict (broken_at k x)) turn.answer j))
-        look (Refused x) j u says =
-            says ∙ rw (u refl, verdict, taken) (sym (left (same_answer_lem (J.refused x) turn.answer j)))
+        look : (a : Answer) → values_of a ≡ answer_values turn.answer → ((values_of a).answer ≡ 3 → after ≡ m) → Next (stopped_at a (held_by after) (5 * i))
+        look (Ok Whole) j u = record { k = turn.kept; follows = follows; rest = left (same_answer_lem (J.verdict all_whole) turn.answer j) }
+        look (Ok (Open x)) j u = record { k = turn.kept; follows = follows; rest = left (same_answer_lem (J.verdict (some_open x)) turn.answer j) }
+        look (Ok (Broken k x)) j u =
+            ap (ended (broken_at k x)) (tracks-taken S turn.kept b (held_by after) follows.tracks) ∙ sym (left (same_answer_lem (J.verdict (broken_at k x)) turn.answer j))
+        look (Err why) j u = rw (u refl, verdict, taken) (sym (left (same_answer_lem (J.refused (number_of why)) turn.answer j)))
 
 -- ---- the loop
 
@@ -101,18 +100,14 @@ module _ {table log : List ℕ} {n : ℕ} {m : List ℕ} {i : ℕ} (p : Playing 
         judged = λ S b formed looks lent oracle right. e ∙ reached-done (p.judged S b formed looks lent oracle right) (sym z);
       }
 
-  module _ {after : List ℕ} {o : Observation} {t : Turned} (h : i < n) (is : seen o ≡ record_at log i) (turns : Turns table m o (5 * i) t after) where
-    next : cond t.stops (Plays table log n t.outcome) (Playing table log n after (suc i))
-    next = look t.stops (going_next p.going h is turns) (λ S b formed looks lent oracle right. reached-next (p.judged S b formed looks lent oracle right) h is lent right turns)
+  module _ {after : List ℕ} {o : Observation} {t : Option Outcome} (h : i < n) (is : seen o ≡ record_at log i) (turns : Turns table m o (5 * i) t after) where
+    abbrev pub Turned : Option Outcome → Type 0
+    Turned x = MatchOption x (Playing table log n after (suc i)) (Plays table log n)
+
+    pub next : Turned t
+    next = look t (going_next p.going h is turns) (λ S b formed looks lent oracle right. reached-next (p.judged S b formed looks lent oracle right) h is lent right turns)
       where
-        look : (x : Bool) → cond x (Played log n t.outcome) (Going log after (suc i))
-            → UnderBook table (λ oracle S b. cond x (t.outcome ≡ play oracle log nothing 0 n) (Reached oracle S b log n after (suc i)))
-            → cond x (Plays table log n t.outcome) (Playing table log n after (suc i))
-        look true g j = record { played = g; judged = j }
-        look false g j = record { within = omega arith; going = g; judged = j }
-
-    pub stop : t.stops ≡ true → Plays table log n t.outcome
-    stop e = rw e at next
-
-    pub more : t.stops ≡ false → Playing table log n after (i + 1)
-    more e = rw add-one (rw e at next)
+        look : (x : Option Outcome) → MatchOption x (Going log after (suc i)) (Played log n)
+            → UnderBook table (λ oracle S b. MatchOption x (Reached oracle S b log n after (suc i)) (λ r. r ≡ play oracle log nothing 0 n)) → Turned x
+        look (Some r) g j = record { played = g; judged = j }
+        look None g j = record { within = omega arith; going = g; judged = j }

@@ -1,8 +1,9 @@
 -- A whole run: a log that is no list of records is turned away, and of another the records are played. Assumes nothing.
 use mathlib.Core.Path.{◌≡◌, sym, ◌∙◌}
-use mathlib.Core.Bool.{true, false}
+use mathlib.Core.Bool.{true, false, not, or-true}
 use mathlib.Core.List.{List}
 use Prim.Native.Nat.{ℕ, ◌%◌, ◌≤◌, ◌<◌}
+use lib.Dec.{eqb}
 use lib.ListN.{length}
 use borrow.Author.Tests.{lt-ltb, le-ltb, eq-eqb, ne_eqb}
 use Rattle.pattern.specs.Judge.{Oracle, nothing}
@@ -15,8 +16,8 @@ module _ (log : List ℕ) where
   pub uneven : (length log % 5 ≡ 0 → ⊥) → bad_length log ≡ true
   uneven h = rw (ne_eqb (length log % 5) 0 h)
 
-  pub long : length log % 5 ≡ 0 → 4294967295 < length log → bad_length log ≡ true
-  long e h = rw (eq-eqb (length log % 5) 0 e, lt-ltb 4294967295 (length log) h)
+  pub long : 4294967295 < length log → bad_length log ≡ true
+  long h = rw (lt-ltb 4294967295 (length log) h) (or-true (not (eqb (length log % 5) 0)))
 
   pub good : length log % 5 ≡ 0 → length log ≤ 4294967295 → bad_length log ≡ false
   good e h = rw (eq-eqb (length log % 5) 0 e, le-ltb 4294967295 (length log) h)

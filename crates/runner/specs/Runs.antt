@@ -1,6 +1,6 @@
 -- What the runner's calls promise: `Runs` is the run's own promise, and the others are its parts, but for `EveryRun`, which follows from it (`every-run`).
 -- Assumes nothing.
-use Rattle.std.specs.Prelude.{◌≡◌, Bool, true, false, List, ℕ, zero, suc, ◌*◌, ◌≤◌, ◌<◌}
+use Rattle.std.specs.Prelude.{◌≡◌, true, false, List, ℕ, zero, suc, ◌*◌, ◌≤◌, ◌<◌, Option, Some, None, Ok, Err}
 use Rattle.std.proofs.Math.Option.{none, some}
 use Rattle.pattern.specs.Judge.{Oracle, Right, Verdict, all_whole, some_open, broken_at, time_of, refusal, nothing}
 use Rattle.layout.specs.Layout.{Sheet, WellFormedSheet}
@@ -8,13 +8,12 @@ use Rattle.book.specs.Looks.{Looks}
 use Rattle.book.specs.declared.Book.{Book}
 use Rattle.words.specs.Words.{Held, held_by}
 use Rattle.answers.specs.declared.Observation.{Observation}
-use Rattle.answers.specs.declared.Answer.{Answer}
-use Rattle.answers.specs.declared.Answer.TheVariants.{Whole, Open, Broken, Refused}
-use Rattle.monitor.specs.Promise.{verdict_in, in_memory, Observes}
+use Rattle.answers.specs.Cases.{number_of}
+use Rattle.answers.specs.declared.Verdict.TheVariants.{Whole, Open, Broken}
+use Rattle.monitor.specs.Promise.{Answer, verdict_in, in_memory, Observes}
 use Rattle.records.specs.Records.{record_at}
 use Rattle.runner.specs.Log.{bad_length, ended, refused_at, turned_away, play, at_most, run_of}
 use Rattle.runner.specs.declared.Outcome.{Outcome}
-use Rattle.runner.specs.declared.Turned.{Turned}
 
 -- ---- the promise of a run
 
@@ -64,26 +63,18 @@ pub record EveryRun (log : List ℕ) (budget : ℕ) (r : Outcome) : Type 0 where
 
 -- ---- one record
 
--- "Only a refusal or a break stops" a run
-abbrev pub stops_at : Answer → Bool
-stops_at Whole = false
-stops_at (Open mask) = false
-stops_at (Broken k mask) = true
-stops_at (Refused number) = true
+-- what a run says that stops with an answer to the record at an offset, which has left this monitor; none where it goes on: "Only a refusal or a break stops" a run
+abbrev pub stopped_at : Answer → Held → ℕ → Option Outcome
+stopped_at (Ok Whole) m at = None
+stopped_at (Ok (Open mask)) m at = None
+stopped_at (Ok (Broken k mask)) m at = Some (ended (broken_at k mask) m.taken)
+stopped_at (Err why) m at = Some (refused_at (number_of why) (verdict_in m) m.taken at)
 
--- what a run says that stops with an answer to the record at an offset, which has left this monitor; where it goes on, nothing is asked of it
-abbrev pub SaysAt : Answer → Held → ℕ → Outcome → Type 0
-SaysAt Whole m at r = Unit {0}
-SaysAt (Open mask) m at r = Unit {0}
-SaysAt (Broken k mask) m at r = r ≡ ended (broken_at k mask) m.taken
-SaysAt (Refused number) m at r = r ≡ refused_at number (verdict_in m) m.taken at
-
--- the record is observed; whether the answer stops the run, and with what
-pub record Turns (table before : List ℕ) (o : Observation) (at : ℕ) (t : Turned) (after : List ℕ) : Type 0 where
+-- the record is observed; what the run says, if it stops there
+pub record Turns (table before : List ℕ) (o : Observation) (at : ℕ) (t : Option Outcome) (after : List ℕ) : Type 0 where
   pub answer : Answer
   pub observes : Observes in_memory table before o answer after
-  pub stops : t.stops ≡ stops_at answer
-  pub says : SaysAt answer (held_by after) at t.outcome
+  pub says : t ≡ stopped_at answer (held_by after) at
 
 -- what a monitor says, once nothing more is looked at
 abbrev pub ended_in : List ℕ → Outcome

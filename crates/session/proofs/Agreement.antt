@@ -21,7 +21,7 @@ use Rattle.monitor.proofs.Agreement.{agrees_from}
 use Rattle.value.specs.Value.{numbers_of, by_value}
 use Rattle.value.specs.declared.Monitor.{Monitor}
 use Rattle.answers.specs.declared.Observation.{Observation}
-use Rattle.answers.specs.declared.Answer.{Answer}
+use Rattle.answers.specs.Cases.{Answer}
 use Rattle.session.specs.Session.{OpensBy, Opens, Session, SessionAgreement}
 use Rattle.session.specs.declared.Opened.{Opened}
 
@@ -50,7 +50,7 @@ pub session-agreement : (bytes : List ℕ) → Bytes bytes → (S : Sheet) → r
 session-agreement bytes are S is m fresh os as' last s = record {
   agrees = along;
   counts = λ oracle right n e. e ∙ (along.agrees oracle right).taken;
-  says = λ oracle right a e. e ∙ ap verdict_values (along.agrees oracle right).verdict;
+  says = λ oracle right v e. ap verdict_values (e ∙ (along.agrees oracle right).verdict);
 }
   where
     formed : WellFormedSheet S

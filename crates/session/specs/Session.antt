@@ -1,6 +1,6 @@
 -- What a session promises, in the words of the monitor part's promises.
 -- Assumes nothing.
-use Rattle.std.specs.Prelude.{◌≡◌, List, map, ℕ, length}
+use Rattle.std.specs.Prelude.{◌≡◌, List, map, ℕ, length, Ok}
 use Rattle.pattern.specs.Judge.{Oracle, Right, nothing, judge_keeps}
 use Rattle.pattern.specs.Values.{verdict_values}
 use Rattle.layout.specs.Layout.{Sheet}
@@ -8,11 +8,11 @@ use Rattle.layout.specs.Reading.{Outcome, accepted, refused, read_sheet}
 use Rattle.sheet.specs.Answers as R
 use Rattle.book.specs.Books.{book_of}
 use Rattle.book.specs.declared.Book.{Book}
-use Rattle.monitor.specs.Promise.{seen, values_of, Says, Observes, Freshes, Run, CodeAgreement}
+use Rattle.monitor.specs.Promise.{Answer, seen, values_of, Says, Observes, Freshes, Run, CodeAgreement}
 use Rattle.value.specs.Value.{numbers_of, by_value}
 use Rattle.value.specs.declared.Monitor.{Monitor}
 use Rattle.answers.specs.declared.Observation.{Observation}
-use Rattle.answers.specs.declared.Answer.{Answer}
+use Rattle.answers.specs.declared.Verdict.{Verdict}
 use Rattle.session.specs.declared.Opened.{Opened}
 
 -- ---- opening, by a host that has this book and this monitor
@@ -36,4 +36,4 @@ Session table = Run (Observes by_value table)
 pub record SessionAgreement (S : Sheet) (os : List Observation) (as' : List Answer) (last : Monitor) : Type 0 where
   pub agrees : CodeAgreement S os as' (numbers_of last)
   pub counts : (oracle : Oracle) → Right S.rules oracle → (n : ℕ) → n ≡ last.taken → n ≡ length (judge_keeps oracle nothing (map seen os)).taken
-  pub says : (oracle : Oracle) → Right S.rules oracle → (a : Answer) → Says a (numbers_of last) → values_of a ≡ verdict_values (judge_keeps oracle nothing (map seen os)).verdict
+  pub says : (oracle : Oracle) → Right S.rules oracle → (v : Verdict) → Says v (numbers_of last) → values_of (Ok v) ≡ verdict_values (judge_keeps oracle nothing (map seen os)).verdict

@@ -6,10 +6,10 @@ ghost use Rattle.monitor.specs.Promise.{Observes, Freshes, Says};
 ghost use Rattle.value.specs.Value.{numbers_of, by_value};
 ghost use Rattle.session.specs.Session.{Opens};
 
-use answers::{Answer, Observation};
+use answers::{Answer, Observation, Verdict};
 use book::Book;
 use tables::Table;
-use value::Monitor;
+use value::{Answered, Monitor};
 
 // What opening a session from a sheet's bytes gives: the reader's answer, and the book and the monitor to go on with.
 #[derive(Drop)]
@@ -58,24 +58,21 @@ pub fn start(m: &mut Monitor)
 pub fn observe(m: &mut Monitor, table: &Table, o: Observation) -> Answer
     ensures { Observes by_value table.now m.old o result m.new }
 {
-    let s = *m;
-    let r = value::step(table, s, o);
-    *m = r.monitor;
-    r.answer
+    let Answered { monitor, answer } = value::step(table, *m, o);
+    *m = monitor;
+    answer
 }
 
 // The verdict that the session's monitor holds. It is read, and not changed.
-pub fn verdict(m: &Monitor) -> Answer
+pub fn verdict(m: &Monitor) -> Verdict
     ensures { Says result (numbers_of m.now) }
 {
-    let s = *m;
-    value::verdict_of(s)
+    value::verdict_of(*m)
 }
 
 // The number of observations that the session's monitor has taken. It is read, and not changed.
 pub fn taken(m: &Monitor) -> u32
     ensures { result ≡ m.now.taken }
 {
-    let s = *m;
-    value::taken_by(s)
+    value::taken_by(*m)
 }

@@ -7,7 +7,7 @@ use Rattle.layout.specs.Layout.{Sheet, Bytes}
 use Rattle.layout.specs.Reading.{accepted, read_sheet}
 use Rattle.book.specs.Books.{Translates}
 use Rattle.book.specs.declared.Translation.{Translation}
-use Rattle.answers.specs.declared.Answer.{Answer}
+use Rattle.answers.specs.Cases.{Answer}
 use Rattle.answers.specs.declared.Observation.{Observation}
 use Rattle.monitor.specs.Promise.{Observes, Freshes, Run, CodeAgreement}
 use Rattle.monitor.proofs.Agreement.{agreement}

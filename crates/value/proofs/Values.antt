@@ -12,7 +12,7 @@ use Rattle.value.specs.Value.{numbers_of, by_value}
 use Rattle.value.specs.declared.Monitor.{Monitor}
 use Rattle.answers.specs.Observe.{observe_of}
 use Rattle.answers.specs.declared.Observation.{Observation}
-use Rattle.answers.specs.declared.Answer.{Answer}
+use Rattle.answers.specs.Cases.{Answer}
 
 -- a monitor is its numbers
 same_numbers : (a b : Monitor) → numbers_of a ≡ numbers_of b → a ≡ b

@@ -7,7 +7,7 @@ ghost use Rattle.words.specs.Words.{held_by, Holds, nothing_taken};
 ghost use Rattle.monitor.specs.Promise.{Observes, Freshes, Says};
 ghost use Rattle.value.specs.Value.{numbers_of, by_value};
 
-use answers::{Answer, Observation};
+use answers::{Answer, Observation, Verdict};
 use rule_state::RuleState;
 use tables::Table;
 use words::Memory;
@@ -32,25 +32,21 @@ pub struct Answered {
 }
 
 // Sixteen states in memory, and nothing beside them.
-fn rules_in_memory(rules: [RuleState; 16]) -> Memory
-    ensures { Holds result (nothing_taken rules) }
+fn rules_in_memory(rules: &[RuleState; 16]) -> Memory
+    ensures { Holds result (nothing_taken rules.now) }
 {
     let mut w = [0u8; words::LENGTH];
-    let mut r = 0usize;
-    while r < 16 {
-        let st = rules[r];
-        words::store(&mut w, r, st);
-        r = r + 1;
+    for (r, st) in rules.iter().enumerate() {
+        words::store(&mut w, r, *st);
     }
     w
 }
 
 // A monitor in memory.
-fn in_memory(m: Monitor) -> Memory
-    ensures { Holds result (numbers_of m) }
+fn in_memory(m: &Monitor) -> Memory
+    ensures { Holds result (numbers_of m.now) }
 {
-    let rules = m.rules;
-    let mut w = rules_in_memory(rules);
+    let mut w = rules_in_memory(&m.rules);
     words::settle(&mut w, m.taken, m.latest, m.verdict, m.mask, m.dues);
     w
 }
@@ -59,21 +55,10 @@ fn in_memory(m: Monitor) -> Memory
 fn rules_of(w: &Memory) -> [RuleState; 16]
     ensures { result ≡ (held_by w.now).rules }
 {
-    let none = RuleState {
-        fragment: 0,
-        current: 0,
-        states: [0u8; 8],
-        counts: [0u16; 8],
-        lacking: 0,
-        full: 0,
-        end: 0,
-    };
-    let mut rules = [none; 16];
-    let mut r = 0usize;
-    while r < 16 {
-        let st = words::load(w, r);
-        rules[r] = st;
-        r = r + 1;
+    // No `array::from_fn`: what it promises does not tie the closure of a call to the one that it was given, and the proof did not close. Each state is put over the first one.
+    let mut rules = [words::load(w, 0); 16];
+    for (r, st) in rules.iter_mut().enumerate() {
+        *st = words::load(w, r);
     }
     rules
 }
@@ -82,9 +67,8 @@ fn rules_of(w: &Memory) -> [RuleState; 16]
 fn of_memory(w: &Memory) -> Monitor
     ensures { numbers_of result ≡ held_by w.now }
 {
-    let rules = rules_of(w);
     Monitor {
-        rules: rules,
+        rules: rules_of(w),
         taken: words::taken(w),
         latest: words::latest(w),
         verdict: words::verdict(w),
@@ -97,13 +81,10 @@ fn of_memory(w: &Memory) -> Monitor
 pub fn step(table: &Table, m: Monitor, o: Observation) -> Answered
     ensures { Observes by_value table.now m o result.answer result.monitor }
 {
-    let mut w = in_memory(m);
+    let mut w = in_memory(&m);
     let answer = monitor::observe(table, &mut w, o);
-    let next = of_memory(&w);
-    Answered {
-        monitor: next,
-        answer: answer,
-    }
+    let monitor = of_memory(&w);
+    Answered { monitor, answer }
 }
 
 // A fresh monitor.
@@ -115,19 +96,10 @@ pub fn start() -> Monitor
 }
 
 // The verdict that a monitor holds.
-pub fn verdict_of(m: Monitor) -> Answer
+pub fn verdict_of(m: Monitor) -> Verdict
     ensures { Says result (numbers_of m) }
 {
-    if m.verdict == 2 {
-        let k = m.taken;
-        let mask = m.mask;
-        return Answer::Broken(k, mask);
-    }
-    if m.verdict == 1 {
-        let mask = m.mask;
-        return Answer::Open(mask);
-    }
-    Answer::Whole
+    monitor::verdict_by(m.verdict, m.taken, m.mask)
 }
 
 // The number of observations that a monitor has taken.

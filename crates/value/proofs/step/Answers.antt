@@ -3,4 +3,4 @@ use Rattle.value.proofs.Values.{turns}
 use Rattle.value.proofs.step.Goals as goal
 
 pub returns : goal.returns
-returns c = turns c.in_memory-w.ensures c.observe-answer.ensures c.of_memory-next.ensures
+returns c = turns c.in_memory-w.ensures c.observe-answer.ensures c.of_memory-monitor.ensures
