@@ -4,37 +4,36 @@
 ghost use Rattle.std.specs.Prelude.{◌≡◌, cond, ℕ, ◌<◌, ◌≤◌};
 ghost use Rattle.names.specs.Names.{member, insert};
 ghost use Rattle.tables.specs.Words.{round_in};
-ghost use Rattle.book.specs.Tables.{stored, in_turn, fragment_set, name_table, rule_set, rule_table, mask_of, put_cell, put_fragment, put_rule, table_of};
+ghost use Rattle.book.specs.Tables.{stored, in_turn, fragment_set, name_table, rule_set, rule_table, mask_of, put_cell, put_fragment, put_rule};
 ghost use Rattle.book.specs.Books.{Translates, book_from};
 
+use fields::Refused;
+use parts::RuleTables;
+use sheet::Pages;
 use tables::Table;
 
 // ---- the names of each fragment
 
 // The set of names of fragment k.
-fn fragment_set<'a>(fragments: &'a [u16; 256], ranges: &'a [u64; 2048], k: usize) -> u64
+fn fragment_set(rules: &RuleTables, k: usize) -> u64
     requires { k < 256 }
-    ensures { result ≡ fragment_set fragments.now ranges.now k }
+    ensures { result ≡ fragment_set rules.now.fragments rules.now.ranges k }
 {
-    let count = tables::ranges_in(fragments[k]) as usize;
+    let count = tables::ranges_in(rules.fragments[k]) as usize;
     let base = 8 * k;
-    let mut set = 0u64;
-    let mut i = 0usize;
-    while i < count {
-        set = names::with(set, tables::bit(ranges[base + i]));
-        i = i + 1;
+    let mut set = 0;
+    for i in 0..count {
+        set = names::with(set, tables::bit(rules.ranges[base + i]));
     }
     set
 }
 
-fn name_table<'a>(fragments: &'a [u16; 256], ranges: &'a [u64; 2048]) -> [u64; 256]
-    ensures { result ≡ name_table fragments.now ranges.now }
+fn name_table(rules: &RuleTables) -> [u64; 256]
+    ensures { result ≡ name_table rules.now.fragments rules.now.ranges }
 {
-    let mut names = [0u64; 256];
-    let mut k = 0usize;
-    while k < 256 {
-        names[k] = fragment_set(fragments, ranges, k);
-        k = k + 1;
+    let mut names = [0; 256];
+    for k in 0..256 {
+        names[k] = fragment_set(rules, k);
     }
     names
 }
@@ -42,29 +41,25 @@ fn name_table<'a>(fragments: &'a [u16; 256], ranges: &'a [u64; 2048]) -> [u64; 2
 // ---- the rules of each name
 
 // The set of names of rule r.
-fn rule_set<'a>(heads: &'a [u64; 16], names: &'a [u64; 256], r: usize) -> u64
+fn rule_set(rules: &RuleTables, names: &[u64; 256], r: usize) -> u64
     requires { r < 16 }
-    ensures { result ≡ rule_set heads.now names.now r }
+    ensures { result ≡ rule_set rules.now.heads names.now r }
 {
-    let count = tables::fragments_in_round(heads[r]) as usize;
+    let count = tables::fragments_in_round(rules.heads[r]) as usize;
     let base = 16 * r;
-    let mut set = 0u64;
-    let mut i = 0usize;
-    while i < count {
-        set = set | names[base + i];
-        i = i + 1;
+    let mut set = 0;
+    for i in 0..count {
+        set |= names[base + i];
     }
     set
 }
 
-fn rule_table<'a>(heads: &'a [u64; 16], names: &'a [u64; 256]) -> [u64; 16]
-    ensures { result ≡ rule_table heads.now names.now }
+fn rule_table(rules: &RuleTables, names: &[u64; 256]) -> [u64; 16]
+    ensures { result ≡ rule_table rules.now.heads names.now }
 {
-    let mut sets = [0u64; 16];
-    let mut r = 0usize;
-    while r < 16 {
-        sets[r] = rule_set(heads, names, r);
-        r = r + 1;
+    let mut sets = [0; 16];
+    for r in 0..16 {
+        sets[r] = rule_set(rules, names, r);
     }
     sets
 }
@@ -85,11 +80,9 @@ fn mask_of(sets: &[u64; 16], m: u8, count: usize) -> u64
     requires { count ≤ 16 }
     ensures { result ≡ mask_of sets.now m count }
 {
-    let mut mask = 0u64;
-    let mut r = 0usize;
-    while r < count {
+    let mut mask = 0;
+    for r in 0..count {
         mask = add_rule(mask, sets[r], m, r);
-        r = r + 1;
     }
     mask
 }
@@ -99,10 +92,8 @@ fn put_masks(table: &mut Table, sets: &[u64; 16], count: usize)
     requires { count ≤ 16 }
     ensures { table.new ≡ stored (λ (m : ℕ). mask_of sets.now m count) 64 table.old }
 {
-    let mut m = 0usize;
-    while m < tables::NAMES {
+    for m in 0..tables::NAMES {
         table[m] = mask_of(sets, m as u8, count);
-        m = m + 1;
     }
 }
 
@@ -122,55 +113,44 @@ fn put_ranges(
 {
     let first = tables::CELLS + tables::NAMES * r;
     let base = 8 * k;
-    let mut i = 0usize;
-    while i < count {
+    for i in 0..count {
         let word = ranges[base + i];
         let at = first + (tables::bit(word) as usize);
         table[at] = cells::cell_of(shared, word, i);
-        i = i + 1;
     }
 }
 
 // Stores the cells of rule r.
-fn put_fragments<'a>(
-    table: &mut Table,
-    fragments: &'a [u16; 256],
-    ranges: &'a [u64; 2048],
-    head: u64,
-    r: usize,
-)
+fn put_fragments(table: &mut Table, rules: &RuleTables, head: u64, r: usize)
     requires { r < 16 }
-    ensures { table.new ≡ in_turn (put_fragment fragments.now ranges.now head r) (round_in head) table.old }
+    ensures { table.new ≡ in_turn (put_fragment rules.now.fragments rules.now.ranges head r) (round_in head) table.old }
 {
     let all = tables::fragments_in_round(head) as usize;
     let base = 16 * r;
-    let mut f = 0usize;
-    while f < all {
+    for f in 0..all {
         let k = base + f;
-        let word = fragments[k];
+        let word = rules.fragments[k];
         let count = tables::ranges_in(word) as usize;
-        put_ranges(table, ranges, r, k, cells::shared(head, word, f), count);
-        f = f + 1;
+        put_ranges(
+            table,
+            &rules.ranges,
+            r,
+            k,
+            cells::shared(head, word, f),
+            count,
+        );
     }
 }
 
 // Stores each rule's head and cells.
-fn put_rules<'a>(
-    table: &mut Table,
-    heads: &'a [u64; 16],
-    fragments: &'a [u16; 256],
-    ranges: &'a [u64; 2048],
-    count: usize,
-)
+fn put_rules(table: &mut Table, rules: &RuleTables, count: usize)
     requires { count ≤ 16 }
-    ensures { table.new ≡ in_turn (put_rule heads.now fragments.now ranges.now) count table.old }
+    ensures { table.new ≡ in_turn (put_rule rules.now.heads rules.now.fragments rules.now.ranges) count table.old }
 {
-    let mut r = 0usize;
-    while r < count {
-        let head = heads[r];
+    for r in 0..count {
+        let head = rules.heads[r];
         table[tables::HEADS + r] = head;
-        put_fragments(table, fragments, ranges, head, r);
-        r = r + 1;
+        put_fragments(table, rules, head, r);
     }
 }
 
@@ -182,61 +162,25 @@ pub struct Book {
     pub table: Table,
 }
 
-#[derive(Drop)]
-pub struct Translation {
-    pub answer: sheet::Answer,
-    pub book: Book,
-}
-
-// The table of a sheet's pages.
-fn table_of<'a>(
-    heads: &'a [u64; 16],
-    fragments: &'a [u16; 256],
-    ranges: &'a [u64; 2048],
-    count: u8,
-    version: u16,
-    outputs: u64,
-) -> Table
-    ensures { result ≡ table_of heads.now fragments.now ranges.now count version outputs }
+// The book of a sheet's pages.
+fn book_of(pages: &Pages) -> Book
+    ensures { result ≡ book_from pages.now }
 {
-    let n = tables::few(count as usize);
-    let names = name_table(fragments, ranges);
-    let sets = rule_table(heads, &names);
+    let n = tables::few(pages.count as usize);
+    let names = name_table(&pages.tables);
+    let sets = rule_table(&pages.tables, &names);
     let mut table = [0u64; tables::LENGTH];
     put_masks(&mut table, &sets, n);
-    put_rules(&mut table, heads, fragments, ranges, n);
-    table[tables::VERSION] = version as u64;
-    table[tables::OUTPUTS] = outputs;
-    table
+    put_rules(&mut table, &pages.tables, n);
+    table[tables::VERSION] = pages.version as u64;
+    table[tables::OUTPUTS] = pages.outputs;
+    Book { table }
 }
 
-// The book of a sheet's pages.
-fn book_of(pages: sheet::Pages) -> Book
-    ensures { result ≡ book_from pages }
-{
-    let heads = pages.heads;
-    let fragments = pages.fragments;
-    let ranges = pages.ranges;
-    let table = table_of(
-        &heads,
-        &fragments,
-        &ranges,
-        pages.count,
-        pages.version,
-        pages.outputs,
-    );
-    Book { table: table }
-}
-
-// Reads a sheet from any bytes and translates it: the answer is the reader's, and the book of an accepted sheet is its own. The book that comes with a refusal is the program's choice.
-pub fn translate(s: &[u8]) -> Translation
+// Reads a sheet from any bytes and translates it: the book of an accepted sheet, or the reader's refusal.
+pub fn translate(s: &[u8]) -> Result<Book, Refused>
     ensures { Translates s.now result }
 {
-    let r = sheet::read(s);
-    let answer = r.answer;
-    let book = book_of(r.pages);
-    Translation {
-        answer: answer,
-        book: book,
-    }
+    let pages = sheet::read(s)?;
+    Ok(book_of(&pages))
 }

@@ -1,1 +1,3 @@
+pub mod Faults
+pub mod Values
 pub mod Told

@@ -1,33 +1,43 @@
 // Reads the parts of a sheet (document 01, "The sheet"): ranges, fragments and rules, into the tables of its pages. Each function answers what the definition of that name does.
-// A fault is a number of document 01; 0 is none. What `rules` asks, its one caller in `sheet` is proved to give.
+// What `rules` asks, its one caller in `sheet` is proved to give.
 #![tactic(auto)]
 
-ghost use Rattle.std.specs.Prelude.{◌≡◌, ◌+◌, ◌*◌, ◌^◌, ◌<◌, ◌≤◌, length};
+ghost use Rattle.std.specs.Prelude.{◌≡◌, ◌+◌, ◌*◌, ◌^◌, ◌<◌, ◌≤◌, replicate};
 ghost use Rattle.names.specs.Names.{insert};
-ghost use Rattle.layout.specs.Form.{read};
-ghost use Rattle.layout.specs.Terms.{today};
 ghost use Rattle.layout.specs.Faults.{by_kind};
 ghost use Rattle.layout.specs.Reading.{range, ranges, fragment, fragments, header, rule, rules};
 ghost use Rattle.layout.specs.Pages.{trigger_fragments};
-ghost use Rattle.fields.specs.Told.{Told};
-ghost use Rattle.parts.specs.Shown.{RangeShown, RangesShown, FragmentShown, FragmentsShown, Stored, HeaderShown, RuleShown, RulesShown};
+ghost use Rattle.fields.specs.Told.{Told, a_part};
+ghost use Rattle.parts.specs.Shown.{no_rules, RangeShown, RangesShown, FragmentShown, FragmentsShown, Stored, HeaderShown, RuleShown, RulesShown};
 
-// A part that was read: the offset after it, and the names so far with its own; or the fault and its place.
+use fields::{Reader, Refused};
+
+// All that a sheet's rules say, in file order (layout/specs/Pages): heads has each rule's eight bytes, fragments each fragment's join and count, ranges each range's name, u and v.
 #[derive(Drop)]
-pub struct Step {
-    pub fault: u8,
-    pub at: usize,
-    pub used: u64,
+pub struct RuleTables {
+    pub heads: [u64; 16],
+    pub fragments: [u16; 256],
+    pub ranges: [u64; 2048],
 }
 
-fn halt(fault: u8, at: usize) -> Step
-    ensures { (result.fault ≡ fault) × (result.at ≡ at) }
-{
-    Step {
-        fault: fault,
-        at: at,
-        used: 0,
+impl RuleTables {
+    // Those of no rules.
+    pub fn new() -> RuleTables
+        ensures { result ≡ no_rules }
+    {
+        RuleTables {
+            heads: [0; 16],
+            fragments: [0; 256],
+            ranges: [0; 2048],
+        }
     }
+}
+
+// What the sheet's header says that its rules are read by.
+#[derive(Clone, Copy)]
+pub struct SheetHeader {
+    pub version: u64,
+    pub outputs: u64,
 }
 
 // A range as one number.
@@ -38,73 +48,43 @@ fn range_word(n: u64, u: u64, v: u64) -> u64
     n + 256 * (u + 65536 * v)
 }
 
-// A range, into the table at k.
+// A range, into the table at k: the names so far with its own.
 fn range(
-    s: &[u8],
-    from: usize,
-    version: u64,
-    outputs: u64,
+    r: &mut Reader,
+    sheet: SheetHeader,
     of_q: bool,
     before: u64,
     table: &mut [u64; 2048],
     k: usize,
-) -> Step
-    requires { (from ≤ length s.now) × (k < 2048) }
-    ensures { Told s.now result.fault result.at (RangeShown before result.used k table.old table.new) (read today s.now (range version outputs of_q before) from) }
+) -> Result<u64, Refused>
+    requires { k < 2048 }
+    ensures { Told (RangeShown before k table.old table.new) r.old r.new result (a_part (range sheet.version sheet.outputs of_q before)) }
 {
-    let n = fields::name_field(s, from, outputs, of_q, before);
-    if n.fault != 0 {
-        return halt(n.fault, n.at);
-    }
-    let u = fields::least(s, n.at);
-    if u.fault != 0 {
-        return halt(u.fault, u.at);
-    }
-    let v = fields::most(s, u.at, version, u.value);
-    if v.fault != 0 {
-        return halt(v.fault, v.at);
-    }
-    table[k] = range_word(n.value, u.value, v.value);
-    let used = names::with(before, n.value as u8);
-    Step {
-        fault: 0,
-        at: v.at,
-        used: used,
-    }
+    let n = r.name(sheet.outputs, of_q, before)?;
+    let u = r.least()?;
+    let v = r.most(sheet.version, u)?;
+    table[k] = range_word(n, u, v);
+    Ok(names::with(before, n as u8))
 }
 
 // The ranges of a fragment, into the table from an index on.
 fn ranges(
-    s: &[u8],
-    from: usize,
-    version: u64,
-    outputs: u64,
+    r: &mut Reader,
+    sheet: SheetHeader,
     of_q: bool,
     before: u64,
     count: usize,
     table: &mut [u64; 2048],
     base: usize,
-) -> Step
-    requires { (from ≤ length s.now) × (base + count ≤ 2048) }
-    ensures { Told s.now result.fault result.at (RangesShown before result.used base table.old table.new) (read today s.now (ranges version outputs of_q before count) from) }
+) -> Result<u64, Refused>
+    requires { base + count ≤ 2048 }
+    ensures { Told (RangesShown before base table.old table.new) r.old r.new result (a_part (ranges sheet.version sheet.outputs of_q before count)) }
 {
-    let mut at = from;
     let mut used = before;
-    let mut i = 0usize;
-    while i < count {
-        let r = range(s, at, version, outputs, of_q, used, table, base + i);
-        if r.fault != 0 {
-            return r;
-        }
-        at = r.at;
-        used = r.used;
-        i = i + 1;
+    for i in 0..count {
+        used = range(r, sheet, of_q, used, table, base + i)?;
     }
-    Step {
-        fault: 0,
-        at: at,
-        used: used,
-    }
+    Ok(used)
 }
 
 // A fragment's join and count of ranges as one number.
@@ -116,75 +96,49 @@ fn fragment_word(join: u64, count: u64) -> u16
 }
 
 // A fragment, of number k.
-fn fragment<'a>(
-    s: &[u8],
-    from: usize,
-    version: u64,
-    outputs: u64,
+fn fragment(
+    r: &mut Reader,
+    sheet: SheetHeader,
     of_q: bool,
     before: u64,
-    words: &'a mut [u16; 256],
-    table: &'a mut [u64; 2048],
+    tables: &mut RuleTables,
     k: usize,
-) -> Step
-    requires { (from ≤ length s.now) × (k < 256) }
-    ensures { Told s.now result.fault result.at (FragmentShown before result.used k words.old words.new table.old table.new) (read today s.now (fragment version outputs of_q before) from) }
+) -> Result<u64, Refused>
+    requires { k < 256 }
+    ensures { Told (FragmentShown before k tables.old tables.new) r.old r.new result (a_part (fragment sheet.version sheet.outputs of_q before)) }
 {
-    let j = fields::join(s, from, version);
-    if j.fault != 0 {
-        return halt(j.fault, j.at);
-    }
-    let n = fields::count(s, j.at, fields::MOST_RANGES);
-    if n.fault != 0 {
-        return halt(n.fault, n.at);
-    }
-    words[k] = fragment_word(j.value, n.value);
+    let join = r.join(sheet.version)?;
+    let count = r.count(fields::MOST_RANGES)?;
+    tables.fragments[k] = fragment_word(join, count);
     ranges(
-        s,
-        n.at,
-        version,
-        outputs,
+        r,
+        sheet,
         of_q,
         before,
-        n.value as usize,
-        table,
+        count as usize,
+        &mut tables.ranges,
         8 * k,
     )
 }
 
 // Fragments, numbered from first on.
-fn fragments<'a>(
-    s: &[u8],
-    from: usize,
-    version: u64,
-    outputs: u64,
+fn fragments(
+    r: &mut Reader,
+    sheet: SheetHeader,
     of_q: bool,
     before: u64,
     count: usize,
-    words: &'a mut [u16; 256],
-    table: &'a mut [u64; 2048],
+    tables: &mut RuleTables,
     first: usize,
-) -> Step
-    requires { (from ≤ length s.now) × (first + count ≤ 256) }
-    ensures { Told s.now result.fault result.at (FragmentsShown before result.used first words.old words.new table.old table.new) (read today s.now (fragments version outputs of_q before count) from) }
+) -> Result<u64, Refused>
+    requires { first + count ≤ 256 }
+    ensures { Told (FragmentsShown before first tables.old tables.new) r.old r.new result (a_part (fragments sheet.version sheet.outputs of_q before count)) }
 {
-    let mut at = from;
     let mut used = before;
-    let mut i = 0usize;
-    while i < count {
-        let r = fragment(s, at, version, outputs, of_q, used, words, table, first + i);
-        if r.fault != 0 {
-            return r;
-        }
-        at = r.at;
-        used = r.used;
-        i = i + 1;
+    for i in 0..count {
+        used = fragment(r, sheet, of_q, used, tables, first + i)?;
     }
-    Step {
-        fault: 0,
-        at: at,
-        used: used,
-    }
+    Ok(used)
 }
 
 // The rule's names before its first fragment.
@@ -209,8 +163,6 @@ fn header_word(k: u64, p: u64, q: u64, i: u64, t: u64) -> u64
 // A rule's eight bytes: each field that is needed, the names so far, and the bytes as one number.
 #[derive(Drop)]
 struct Heading {
-    fault: u8,
-    at: usize,
     kind: u64,
     p: u64,
     q: u64,
@@ -219,155 +171,68 @@ struct Heading {
     word: u64,
 }
 
-fn no_heading(f: fields::Found) -> Heading
-    ensures { (result.fault ≡ f.fault) × (result.at ≡ f.at) }
+fn header(r: &mut Reader, sheet: SheetHeader) -> Result<Heading, Refused>
+    ensures { Told (HeaderShown sheet.outputs) r.old r.new result (a_part (header sheet.version sheet.outputs)) }
 {
-    Heading {
-        fault: f.fault,
-        at: f.at,
-        kind: 0,
-        p: 0,
-        q: 0,
-        trigger: 0,
-        used: 0,
-        word: 0,
-    }
-}
-
-fn header(s: &[u8], from: usize, version: u64, outputs: u64) -> Heading
-    requires { from ≤ length s.now }
-    ensures { Told s.now result.fault result.at (HeaderShown result.kind result.p result.q result.trigger result.used result.word) (read today s.now (header version outputs) from) }
-{
-    let k = fields::kind(s, from, version);
-    if k.fault != 0 {
-        return no_heading(k);
-    }
-    let p = fields::count(s, k.at, fields::MOST_FRAGMENTS);
-    if p.fault != 0 {
-        return no_heading(p);
-    }
-    let q = fields::q_count(s, p.at, k.value);
-    if q.fault != 0 {
-        return no_heading(q);
-    }
-    let i = fields::trigger(s, q.at, k.value, outputs);
-    if i.fault != 0 {
-        return no_heading(i);
-    }
-    let t = fields::time(s, i.at, k.value);
-    if t.fault != 0 {
-        return no_heading(t);
-    }
-    let used = trigger_set(k.value, i.value);
-    let word = header_word(k.value, p.value, q.value, i.value, t.value);
-    Heading {
-        fault: 0,
-        at: t.at,
-        kind: k.value,
-        p: p.value,
-        q: q.value,
-        trigger: i.value,
-        used: used,
-        word: word,
-    }
+    let kind = r.kind(sheet.version)?;
+    let p = r.count(fields::MOST_FRAGMENTS)?;
+    let q = r.q_count(kind)?;
+    let trigger = r.trigger(kind, sheet.outputs)?;
+    let time = r.time(kind)?;
+    Ok(Heading {
+        kind,
+        p,
+        q,
+        trigger,
+        used: trigger_set(kind, trigger),
+        word: header_word(kind, p, q, trigger, time),
+    })
 }
 
 // The trigger's fragment, of number k, where there is a trigger: joined all, one range [1,1].
-fn trigger_fragment<'a>(
-    kind: u64,
-    i: u64,
-    words: &'a mut [u16; 256],
-    table: &'a mut [u64; 2048],
-    k: usize,
-)
+fn trigger_fragment(kind: u64, i: u64, tables: &mut RuleTables, k: usize)
     requires { (i ≤ 63) × (k < 256) }
-    ensures { Stored k words.old words.new table.old table.new (trigger_fragments kind i) }
+    ensures { Stored k tables.old tables.new (trigger_fragments kind i) }
 {
     if kind == 2 {
         return;
     }
-    words[k] = fragment_word(0, 1);
-    table[8 * k] = range_word(i, 1, 1);
+    tables.fragments[k] = fragment_word(0, 1);
+    tables.ranges[8 * k] = range_word(i, 1, 1);
 }
 
 // A rule, of number k.
-fn rule<'a>(
-    s: &[u8],
-    from: usize,
-    version: u64,
-    outputs: u64,
-    heads: &'a mut [u64; 16],
-    words: &'a mut [u16; 256],
-    table: &'a mut [u64; 2048],
+fn rule(
+    r: &mut Reader,
+    sheet: SheetHeader,
+    tables: &mut RuleTables,
     k: usize,
-) -> Step
-    requires { (from ≤ length s.now) × (k < 16) }
-    ensures { Told s.now result.fault result.at (RuleShown k heads.old heads.new words.old words.new table.old table.new) (read today s.now (rule version outputs) from) }
+) -> Result<(), Refused>
+    requires { k < 16 }
+    ensures { Told (λ _. RuleShown k tables.old tables.new) r.old r.new result (a_part (rule sheet.version sheet.outputs)) }
 {
-    let h = header(s, from, version, outputs);
-    if h.fault != 0 {
-        return halt(h.fault, h.at);
-    }
-    heads[k] = h.word;
-    let m = h.p as usize;
-    let n = h.q as usize;
-    let p = fragments(
-        s,
-        h.at,
-        version,
-        outputs,
-        false,
-        h.used,
-        m,
-        words,
-        table,
-        16 * k,
-    );
-    if p.fault != 0 {
-        return p;
-    }
-    trigger_fragment(h.kind, h.trigger, words, table, 16 * k + m);
-    fragments(
-        s,
-        p.at,
-        version,
-        outputs,
-        true,
-        p.used,
-        n,
-        words,
-        table,
-        16 * k + m,
-    )
+    let h = header(r, sheet)?;
+    tables.heads[k] = h.word;
+    let first = 16 * k;
+    let last = first + h.p as usize;
+    let used = fragments(r, sheet, false, h.used, h.p as usize, tables, first)?;
+    trigger_fragment(h.kind, h.trigger, tables, last);
+    fragments(r, sheet, true, used, h.q as usize, tables, last)?;
+    Ok(())
 }
 
 // The rules.
-pub fn rules<'a>(
-    s: &[u8],
-    from: usize,
-    version: u64,
-    outputs: u64,
+pub fn rules(
+    r: &mut Reader,
+    sheet: SheetHeader,
     count: usize,
-    heads: &'a mut [u64; 16],
-    words: &'a mut [u16; 256],
-    table: &'a mut [u64; 2048],
-) -> Step
-    requires { (from ≤ length s.now) × (count ≤ 16) }
-    ensures { Told s.now result.fault result.at (RulesShown heads.old heads.new words.old words.new table.old table.new) (read today s.now (rules version outputs count) from) }
+    tables: &mut RuleTables,
+) -> Result<(), Refused>
+    requires { count ≤ 16 }
+    ensures { Told (λ _. RulesShown tables.old tables.new) r.old r.new result (a_part (rules sheet.version sheet.outputs count)) }
 {
-    let mut at = from;
-    let mut i = 0usize;
-    while i < count {
-        let r = rule(s, at, version, outputs, heads, words, table, i);
-        if r.fault != 0 {
-            return r;
-        }
-        at = r.at;
-        i = i + 1;
+    for k in 0..count {
+        rule(r, sheet, tables, k)?;
     }
-    Step {
-        fault: 0,
-        at: at,
-        used: 0,
-    }
+    Ok(())
 }

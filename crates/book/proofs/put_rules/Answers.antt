@@ -1,9 +1,6 @@
 -- `book::put_rules` meets its contract: the loop has stored the heads and the cells of the rules passed. Assumes nothing.
-use mathlib.Core.Path.{◌≡◌, refl}
-use mathlib.Core.List.{List}
-use Prim.Native.Nat.{ℕ}
-use native.Mathlib.Omega.{arith}
-use lib.ListN.{get_or, set}
+use Rattle.std.proofs.Common.{◌≡◌, List, ℕ, get_or, arith}
+use lib.ListN.{set}
 use Rattle.tables.specs.Words.{round_in}
 use Rattle.tables.specs.Cells.{head_at}
 use Rattle.book.specs.Tables.{in_turn, put_fragment, put_rule}
@@ -15,15 +12,12 @@ one : (heads fragments ranges : List ℕ) (r : ℕ) (table : List ℕ) {table' :
 unfolding put_rule
 one heads fragments ranges r table e = e
 
-pub loop-r-init : goal.loop-r-init
-loop-r-init c = (omega arith, refl)
-
 pub loop-r-preserved : goal.loop-r-preserved
-loop-r-preserved c = (
-  omega arith,
-  turn_more (put_rule c.args.heads.now c.args.fragments.now c.args.ranges.now) c.args.table.now c.loop-r.r c.loop-r.invariant.1
-      (one c.args.heads.now c.args.fragments.now c.args.ranges.now c.loop-r.r c.loop-r.table c.put_fragments.ensures),
-)
+loop-r-preserved c =
+    let t = c.args.rules.now in
+    turn_more (put_rule t.heads t.fragments t.ranges) c.args.table.now c.loop-r.r c.loop-r.invariant
+    (one t.heads t.fragments t.ranges c.loop-r.r c.loop-r.table c.put_fragments.ensures)
 
 pub returns : goal.returns
-returns c = all_made (λ n. in_turn (put_rule c.args.heads.now c.args.fragments.now c.args.ranges.now) n c.args.table.now) c.loop-r.invariant.0 c.loop-r-test.false c.loop-r.invariant.1
+returns c =
+    all_made (λ n. in_turn (put_rule c.args.rules.now.heads c.args.rules.now.fragments c.args.rules.now.ranges) n c.args.table.now) {i = c.loop-r.r} {n = c.args.count} (omega arith) (omega arith) c.loop-r.invariant

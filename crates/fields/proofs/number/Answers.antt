@@ -1,64 +1,31 @@
--- `fields::number` meets its contract: from the last byte down, x is the number of the bytes passed. Assumes nothing.
-use mathlib.Core.Path.{◌≡◌}
-use mathlib.Core.List.{List}
-use Prim.Native.Nat.{ℕ, suc, ◌+◌, ◌-◌, ◌*◌, ◌^◌, ◌<◌, ◌≤◌}
-use native.Mathlib.Nat.{pow-le-pow_right}
-use native.Mathlib.Omega.{arith}
-use lib.ListN.{get_or}
+-- `fields::number` meets its contract: the number of eight bytes is that of the field's, if the others are 0. Assumes nothing.
+use Rattle.std.proofs.Common.{◌≡◌, ◌∙◌, sym, ap, ℕ, zero, suc, ◌+◌, ◌-◌, ◌≤◌, ◌++◌, List, length, get_or, drop, replicate, refl, arith}
+use Rattle.std.specs.Int.{w64, from_le_bytes}
+use Rattle.std.proofs.lemmas.List.{get_or_append_left, get_or-append_right, get_or-drop}
 use Rattle.layout.specs.Form.{number}
-use Rattle.fields.specs.Told.{Value}
 use Rattle.layout.proofs.Fields.{bytes_of, number_small}
-use Rattle.fields.proofs.number.Invariants.{Passed}
+use Rattle.fields.proofs.Numbers.{number-same, number-padded, number-eight}
 use Rattle.fields.proofs.number.Goals as goal
 
--- a number of fewer than eight bytes has room for one more
-room : (m : ℕ) {x : ℕ} → x < 256 ^ m → m < 8 → 256 * x + 255 < 2 ^ 64
-room m h l = let p : 256 ^ m ≤ 256 ^ 7 = pow-le-pow_right {n = 256} (omega arith) {i = m} {j = 7} (omega (arith, l)) in omega (arith, h, p)
+zeros : (n i : ℕ) → ◌≡◌ {A = ℕ} (get_or (replicate n 0) i 0) 0
+zeros zero i = refl
+zeros (suc n) zero = refl
+zeros (suc n) (suc i) = zeros n i
 
-module _ (s : List ℕ) (bytes : (i : ℕ) → get_or s i 0 < 256) (n at : ℕ) where
-  none : 0 ≡ number s (n - n) (at + n)
-  unfolding number
-  none = let z : n - n ≡ 0 = omega arith in rw z
-
-  small : {x k : ℕ} → Passed s n at x k → x < 256 ^ (n - k)
-  small {x} {k} p = rw p.1 (number_small s (bytes_of s bytes) (n - k) (at + k))
-
-  more : {x k b : ℕ} → Passed s n at x k → 0 < k → b ≡ get_or s (at + (k - 1)) 0 → Passed s n at (256 * x + b) (k - 1)
-  unfolding number
-  more {x} {k} {b} (l, e) h eb =
-      let a : n - (k - 1) ≡ suc (n - k) = omega arith in
-      let i : at + (k - 1) + 1 ≡ at + k = omega arith in
-      (omega arith, rw (a, i, ← e, ← eb) (omega arith))
-
-  whole : {x k : ℕ} → Passed s n at x k → k ≤ 0 → Value n x (number s n at)
-  whole {x} {k} (l, e) h =
-      let a : n - k ≡ n = omega arith in
-      let i : at + k ≡ at = omega arith in
-      (rw (a, i) at e, number_small s (bytes_of s bytes) n at)
-
-pub loop-k-init : goal.loop-k-init
-loop-k-init c = (omega arith, none c.args.s.now (λ i. (c.type_inv.s i).fits) _ _)
-
-pub overflow_sub-k : goal.overflow_sub-k
-overflow_sub-k c = omega arith
-
-pub overflow_mul-x : goal.overflow_mul-x
-overflow_mul-x c = omega (arith, room _ (small c.args.s.now (λ i. (c.type_inv.s i).fits) _ _ c.loop-k.invariant) (omega arith))
-
-pub overflow_add-at : goal.overflow_add-at
-overflow_add-at c = omega arith
-
-pub bounds-s-at : goal.bounds-s-at
-bounds-s-at c = omega arith
-
-pub overflow_add-x : goal.overflow_add-x
-overflow_add-x c = omega (arith, room _ (small c.args.s.now (λ i. (c.type_inv.s i).fits) _ _ c.loop-k.invariant) (omega arith), c.type_inv.s (c.args.at + (c.loop-k.k - 1)))
-
-pub loop-k-smaller : goal.loop-k-smaller
-loop-k-smaller c = omega arith
-
-pub loop-k-preserved : goal.loop-k-preserved
-loop-k-preserved c = more c.args.s.now (λ i. (c.type_inv.s i).fits) _ _ c.loop-k.invariant c.loop-k-test.true c.wide.ensures
+-- the field's bytes, in place of as many of eight zeros
+padded : (s t : List ℕ) → t ≡ s → length s ≤ 8 → from_le_bytes w64 (t ++ drop (length s) (replicate 8 0)) ≡ number s (length s) 0
+padded s t e h =
+    let n : ℕ = length s in
+    let all : List ℕ = s ++ drop n (replicate 8 0) in
+    let whole : n + (8 - n) ≡ 8 = omega arith in
+    let after : (i : ℕ) → 0 + n ≤ i → get_or all i 0 ≡ 0
+    = λ i l. let back : n + (i - n) ≡ i = omega arith in get_or-append_right s _ n i 0 refl (omega arith) ∙ get_or-drop n _ (i - n) 0 ∙ zeros 8 (n + (i - n)) in
+    ap (λ (l : List ℕ). from_le_bytes w64 (l ++ drop n (replicate 8 0))) e
+    ∙ (number-eight all ∙ (ap (λ (k : ℕ). number all k 0) (sym whole) ∙ (number-padded all n (8 - n) 0 after
+    ∙ number-same all s n 0 0 (λ i l. get_or_append_left s _ 0 (0 + i) (omega arith)))))
 
 pub returns : goal.returns
-returns c = whole c.args.s.now (λ i. (c.type_inv.s i).fits) _ _ c.loop-k.invariant c.loop-k-test.false
+returns c = (
+  c.from_le_bytes.ensures ∙ padded c.args.field.now _ c.copy_from_slice.ensures.after c.requires,
+  number_small c.args.field.now (bytes_of c.args.field.now (λ i. (c.type_inv.field i).fits)) _ _,
+)

@@ -1,20 +1,17 @@
 -- `sheet::read` meets its contract: the first fault is told as it was found, then bytes left over, and else the tables are the sheet's. Assumes nothing.
-use mathlib.Core.Path.{◌≡◌, sym, ap, ◌∙◌}
-use mathlib.Core.List.{List}
-use Prim.Native.Nat.{ℕ, ◌≤◌, ◌<◌}
-use native.Mathlib.Omega.{arith}
-use lib.ListN.{length, replicate}
+use Rattle.std.proofs.Common.{◌≡◌, sym, ap, ◌∙◌, List, ℕ, ◌≤◌, ◌<◌, length, Result, Ok, Err, IsErrAnd, arith}
+use Rattle.std.proofs.lemmas.Result.{err_from_is_err_and}
 use borrow.Author.Tests.{lt-ltb, le-ltb}
-use Rattle.layout.specs.Terms.{today}
 use Rattle.layout.specs.Layout.{Sheet}
-use Rattle.layout.specs.Form.{got, stopped, read}
 use Rattle.layout.specs.Reading.{sheet, Outcome, accepted, refused, read_sheet_on, read_sheet}
 use Rattle.layout.specs.Pages.{head_table, fragment_table, range_table}
-use Rattle.sheet.specs.Shown.{SheetShown}
+use Rattle.fields.specs.Faults.{number_of}
+use Rattle.fields.specs.Told.{Told, Ended, a_part}
+use Rattle.fields.specs.declared.Reader.{Reader}
+use Rattle.fields.specs.declared.Refused.{Refused}
+use Rattle.sheet.specs.Shown.{no_pages, SheetShown}
 use Rattle.sheet.specs.Answers.{read_values, pages_of, Reads}
 use Rattle.sheet.specs.declared.Pages.{Pages}
-use Rattle.sheet.specs.declared.Answer.TheVariants.{Accepted, Refused}
-use Rattle.fields.proofs.Telling.{heard, heard-stop}
 use Rattle.sheet.proofs.read.Goals as goal
 
 not-both : {S : Sheet} {k place : ℕ} {o : Outcome} → o ≡ accepted S → o ≡ refused k place → ⊥
@@ -23,36 +20,56 @@ not-both e f = let z : ◌≡◌ {A = ℕ} 0 1 = cc (e, f) in omega arith
 same-sheet : {S T : Sheet} {o : Outcome} → o ≡ accepted S → o ≡ accepted T → S ≡ T
 same-sheet e f = cc (e, f)
 
-module _ (s : List ℕ) where
-  read-stop : {k place : ℕ} → read today s sheet 0 ≡ stopped k place → read_sheet s ≡ refused k place
-  unfolding read_sheet_on
-  read-stop e = rw e
-
-  read_more : {S : Sheet} {at : ℕ} → read today s sheet 0 ≡ got S at → at < length s → read_sheet s ≡ refused 10 at
-  unfolding read_sheet_on
-  read_more {at} e h = rw (e, lt-ltb at (length s) h)
-
-  read_all : {S : Sheet} {at : ℕ} → read today s sheet 0 ≡ got S at → length s ≤ at → read_sheet s ≡ accepted S
-  unfolding read_sheet_on
-  read_all {at} e h = rw (e, le-ltb at (length s) h)
-
-  refuses : (pages : Pages) {k place : ℕ} → read_sheet s ≡ refused k place → Reads s (record { answer = Refused k place; pages = pages })
-  refuses pages e = record { answers = sym (ap read_values e); keeps = λ S f. absurd (not-both f e) }
-
-  accepts : (pages : Pages) {S : Sheet} → read_sheet s ≡ accepted S → pages ≡ pages_of S → Reads s (record { answer = Accepted; pages = pages })
-  accepts pages e p = record { answers = sym (ap read_values e); keeps = λ T f. p ∙ ap pages_of (same-sheet e f) }
-
-pages-of : {version outputs count : ℕ} {heads words table : List ℕ} (S : Sheet)
-    → SheetShown version outputs count (replicate 16 0) heads (replicate 256 0) words (replicate 2048 0) table S
-    → ◌≡◌ {A = Pages} (record { version = version; outputs = outputs; count = count; heads = heads; fragments = words; ranges = table }) (pages_of S)
+pages-of : {p₀ p : Pages} (S : Sheet) → p₀ ≡ no_pages → SheetShown p₀ p S → p ≡ pages_of S
 unfolding head_table fragment_table range_table
-pages-of S w = rw (w.version', w.outputs', w.count', w.tables.heads', w.tables.fragments, w.tables.ranges)
+pages-of {p₀} {p} S none w =
+    let t = w.tables' in
+    let same : ◌≡◌ {A = Pages}
+    (record {
+      version = p.version;
+      outputs = p.outputs;
+      count = p.count;
+      tables = record { heads = p.tables.heads; fragments = p.tables.fragments; ranges = p.tables.ranges };
+    })
+    (pages_of S)
+    = rw (w.version', w.outputs', w.count', t.heads', t.fragments, t.ranges, none) in
+    same
 
-pub returns-then-r-ne0 : goal.returns-then-r-ne0
-returns-then-r-ne0 c = refuses _ _ (read-stop _ (heard-stop c.sheet-r.ensures c.if-r-ne0.true))
+module _ (s : List ℕ) where
+  refuses : (e : Refused) {r : Result Pages Refused} → IsErrAnd r (λ y. y ≡ e) → read_sheet s ≡ refused (number_of e.fault) e.place → Reads s r
+  refuses why {r} err e = let p = err_from_is_err_and r err in rw (p.1, p.2) (record { answers = sym (ap read_values e); keeps = λ S f. absurd (not-both f e) })
 
-pub returns-then-r-s : goal.returns-then-r-s
-returns-then-r-s c = refuses _ _ (read_more _ (heard c.sheet-r.ensures c.if-r-ne0.false).1 c.if-r-s.true)
+  accepts : {pages : Pages} {S : Sheet} → read_sheet s ≡ accepted S → pages ≡ pages_of S → Reads s (Ok pages)
+  accepts e p = record { answers = sym (ap read_values e); keeps = λ T f. ap Ok (p ∙ ap pages_of (same-sheet e f)) }
+
+  -- a reader that began at the first of the bytes
+  module _ {r₀ r₁ : Reader} (begins : (r₀.bytes.now ≡ s) × (r₀.at ≡ 0)) {U : Type 0} {Shows : U → Sheet → Type 0} where
+    stops : {e : Refused} {r : Result Pages Refused} → Told Shows r₀ r₁ (Err e) (a_part sheet) → IsErrAnd r (λ y. y ≡ e) → Reads s r
+    unfolding read_sheet_on
+    stops told err = let e = rw (begins.0, begins.1) at told.says.stops in refuses _ err (rw e)
+
+    leaves : {u : U} {e : Refused} {r : Result Pages Refused} → Told Shows r₀ r₁ (Ok u) (a_part sheet) → Ended r₁ (Err e) → IsErrAnd r (λ y. y ≡ e) → Reads s r
+    unfolding read_sheet_on
+    leaves told (more, is) err =
+        let e = rw (begins.0, begins.1) at told.says.reads in
+        let same : r₁.bytes.now ≡ s = told.same ∙ begins.0 in
+        let left : r₁.at < length s = rw same at more in
+        refuses _ err (rw (e, lt-ltb r₁.at (length s) left, is))
+
+    ends : {u : U} {pages : Pages} → (told : Told Shows r₀ r₁ (Ok u) (a_part sheet)) → Ended r₁ (Ok (tt {0})) → pages ≡ pages_of told.says.value → Reads s (Ok pages)
+    unfolding read_sheet_on
+    ends told all p =
+        let e = rw (begins.0, begins.1) at told.says.reads in
+        let same : r₁.bytes.now ≡ s = told.same ∙ begins.0 in
+        let none : length s ≤ r₁.at = rw same at all in
+        accepts (rw (e, le-ltb r₁.at (length s) none)) p
+
+pub returns-in_err-sheet : goal.returns-in_err-sheet
+returns-in_err-sheet c = stops _ c.new-r.ensures c.in_err-sheet.ensures c.from_residual.ensures.1
+
+pub returns-in_err-end : goal.returns-in_err-end
+returns-in_err-end c = leaves _ c.new-r.ensures c.in_ok-sheet.ensures c.in_err-end.ensures c.from_residual-in_err-end.ensures.1
 
 pub returns : goal.returns
-returns c = let (S, e, l, shown) = heard c.sheet-r.ensures c.if-r-ne0.false in accepts _ _ (read_all _ e c.if-r-s.false) (pages-of S shown)
+returns c =
+    let t = c.in_ok-sheet.ensures in ends _ c.new-r.ensures t c.in_ok-end.ensures (pages-of t.says.value c.no_pages-pages.ensures t.says.shows)
