@@ -5,20 +5,22 @@ use mathlib.Core.List.{List, [], ◌++◌}
 use Prim.Native.Nat.{ℕ, ◌≤◌, ◌<◌}
 use native.Mathlib.Omega.{arith}
 use lib.ListN.{length, drop}
-use denote.Enum.Declared.{tag_of}
 use borrow.Author.Tests.{lt-ltb, le-ltb}
 use Rattle.pattern.specs.Judge.{Oracle, Right}
 use Rattle.pattern.proofs.Oracle.{model_oracle, right-oracle}
 use Rattle.layout.specs.Layout.{Sheet, Bytes}
 use Rattle.layout.specs.Reading.{accepted, refused, read_sheet}
 use Rattle.layout.specs.Reading as R
-use Rattle.sheet.proofs.Cases.{answer_of}
-use Rattle.sheet.specs.declared.Answer.TheVariants.{Refused}
-use Rattle.sheet.specs.contracts.Answer.{the_type}
+use Rattle.fields.specs.Faults.{number_of}
+use Rattle.fields.specs.declared.Refused.{Refused}
+use Rattle.sheet.proofs.Cases.{AnswerOf}
 use Rattle.layout.proofs.Acceptance.{accepted-is-encoded}
-use Rattle.book.specs.Books.{Translates}
-use Rattle.book.specs.declared.Translation.{Translation}
-use Rattle.book.proofs.Translated.{answered, translated}
+use Rattle.std.specs.Prelude.{Ok, Err}
+use Rattle.book.specs.Books.{Translates, book_of}
+use Rattle.book.specs.Looks.{Looks}
+use Rattle.book.specs.declared.Book.{Book}
+use Rattle.book.proofs.Lookups.{looks}
+use Rattle.book.proofs.Translated.{answered}
 use Rattle.layout.proofs.Accepted.{accepted-rules}
 use Rattle.runner.specs.declared.Outcome.{Outcome}
 use Rattle.runner.specs.Log.{turned_away}
@@ -47,21 +49,23 @@ module _ (sheet : List ℕ) (bytes : Bytes sheet) where
 
   -- ---- what the reader's answer says
 
-  module _ (t : Translation) (translates : Translates sheet t) (log : List ℕ) (budget : ℕ) (r : Outcome) where
-    pub sheet-refused : {number place : ℕ} → t.answer ≡ Refused number place → r ≡ turned_away number place → Outcomes sheet log budget r
-    sheet-refused {number} {place} e is oracle judging = look (read_sheet sheet) (sym e ∙ answered sheet t translates)
+  module _ (log : List ℕ) (budget : ℕ) (r : Outcome) where
+    pub sheet-refused : (e : Refused) → Translates sheet (Err e) → r ≡ turned_away (number_of e.fault) e.place → Outcomes sheet log budget r
+    sheet-refused e translates is oracle judging = look (read_sheet sheet) (answered sheet (Err e) translates)
       where
-        look : (x : R.Outcome) → Refused number place ≡ answer_of x → r ≡ outcome_by oracle x log budget
-        look (accepted S) p = absurd (let z : ◌≡◌ {A = ℕ} 0 1 = cc p in omega arith)
-        look (refused k q) p = is ∙ ap₂ turned_away (cc p) (cc p)
+        look : (x : R.Outcome) → AnswerOf {A = Book} x (Err e) → r ≡ outcome_by oracle x log budget
+        look (accepted S) p = absurd p
+        look (refused k q) p = is ∙ ap₂ turned_away p.0 p.1
 
-    pub sheet-accepted : tag_of the_type t.answer ≡ 0 → Runs t.book.table log budget r → Outcomes sheet log budget r
-    sheet-accepted e runs oracle judging = look (read_sheet sheet) refl (sym e ∙ ap (tag_of the_type) (answered sheet t translates))
+    pub sheet-accepted : (b : Book) → Translates sheet (Ok b) → Runs b.table log budget r → Outcomes sheet log budget r
+    sheet-accepted b translates runs oracle judging = look (read_sheet sheet) refl (answered sheet (Ok b) translates)
       where
-        look : (x : R.Outcome) → read_sheet sheet ≡ x → 0 ≡ tag_of the_type (answer_of x) → r ≡ outcome_by oracle x log budget
+        look : (x : R.Outcome) → read_sheet sheet ≡ x → AnswerOf {A = Book} x (Ok b) → r ≡ outcome_by oracle x log budget
         look (accepted S) f p =
-            runs.judged S t.book (accepted-is-encoded sheet bytes f).formed (translated sheet t bytes translates S f) refl oracle (judging S f)
-        look (refused k q) f p = absurd (omega arith)
+            let formed = (accepted-is-encoded sheet bytes f).formed in
+            let own : b ≡ book_of S = cc (translates.keeps S f) in
+            runs.judged S b formed (subst (Looks S) (sym own) (looks S formed)) refl oracle (judging S f)
+        look (refused k q) f p = absurd p
 
 -- ---- the call
 

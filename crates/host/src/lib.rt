@@ -13,23 +13,9 @@ use runner::Outcome;
 pub fn outcome(sheet: &[u8], log: &[u8], budget: u32) -> Outcome
     ensures { Outcomes sheet.now log.now budget result }
 {
-    let t = book::translate(sheet);
-    let answer = t.answer;
-    match answer {
-        sheet::Answer::Accepted => {
-            let b = t.book;
-            runner::run(&b.table, log, budget)
-        }
-        sheet::Answer::Refused { number, place } => {
-            let at = place as u32;
-            Outcome {
-                answer: 3,
-                refusal: number,
-                mask: 0,
-                taken: 0,
-                place: at,
-            }
-        }
+    match book::translate(sheet) {
+        Ok(book) => runner::run(&book.table, log, budget),
+        Err(refused) => runner::turned_away(refused.fault.number(), refused.place as u32),
     }
 }
 
@@ -40,11 +26,11 @@ fn put_outcome(out: &mut [u8], o: Outcome)
     requires { 12 ≤ length out.old }
     ensures { out.new ≡ twelve o ++ drop 12 out.old }
 {
-    store::put(out, 0, 1, o.answer as u64);
-    store::put(out, 1, 1, o.refusal as u64);
-    store::put(out, 2, 2, o.mask as u64);
-    store::put(out, 4, 4, o.taken as u64);
-    store::put(out, 8, 4, o.place as u64);
+    store::put(out, 0, 1, u64::from(o.answer));
+    store::put(out, 1, 1, u64::from(o.refusal));
+    store::put(out, 2, 2, u64::from(o.mask));
+    store::put(out, 4, 4, u64::from(o.taken));
+    store::put(out, 8, 4, u64::from(o.place));
 }
 
 // The call. "15 output under 12 bytes: it is unchanged and the call returns 15 (else 0)". Else the twelve bytes of the five numbers are written, and the output's other bytes stay.
@@ -55,7 +41,6 @@ pub extern "C" fn guard4_run(sheet: &[u8], log: &[u8], budget: u32, out: &mut [u
     if out.len() < 12 {
         return 15;
     }
-    let o = outcome(sheet, log, budget);
-    put_outcome(out, o);
+    put_outcome(out, outcome(sheet, log, budget));
     0
 }

@@ -6,7 +6,6 @@ use mathlib.Core.List.{List, [], ◌∷◌, map, map-map}
 use Prim.Native.Nat.{ℕ, ◌%◌, ◌≤◌, ◌<◌}
 use native.Mathlib.Omega.{arith}
 use lib.ListN.{length}
-use denote.Enum.Declared.{tag_of}
 use Rattle.pattern.specs.Judge.{nothing, judge_answers}
 use Rattle.pattern.specs.Values.{refused_values, answer_values}
 use Rattle.layout.specs.Terms.{today}
@@ -15,20 +14,18 @@ use Rattle.layout.specs.Reading.{Outcome, accepted, refused, read_sheet}
 use Rattle.layout.specs.Pages.{rule_at}
 use Rattle.layout.proofs.Accepted.{rules-formed}
 use Rattle.layout.proofs.Acceptance.{Accepts, accepted-is-encoded}
-use Rattle.sheet.specs.declared.Answer.TheVariants.{Refused}
-use Rattle.sheet.specs.contracts.Answer.{the_type}
-use Rattle.sheet.proofs.Cases.{answer_of}
+use Rattle.std.specs.Prelude.{Ok, Err}
+use Rattle.fields.specs.Faults as F
+use Rattle.fields.specs.declared.Refused.{Refused}
+use Rattle.sheet.proofs.Cases.{AnswerOf}
 use Rattle.book.specs.declared.Book.{Book}
-use Rattle.book.specs.declared.Translation.{Translation}
 use Rattle.book.specs.Books.{Translates, book_of}
 use Rattle.book.proofs.Lookups.{looks}
 use Rattle.book.proofs.Translated.{answered}
 use Rattle.words.specs.Words.{held_by}
-use Rattle.monitor.specs.Promise.{seen, values_of, verdict_in, in_memory, Observes, Freshes, Run, done, more}
+use Rattle.monitor.specs.Promise.{Answer, seen, values_of, verdict_in, in_memory, Observes, Freshes, Run, done, more}
 use Rattle.monitor.proofs.Agreement.{agrees_from}
-use Rattle.answers.specs.declared.Answer.{Answer}
-use Rattle.answers.specs.declared.Answer.TheVariants.{Whole, Open, Broken}
-use Rattle.answers.specs.declared.Answer.TheVariants as N
+use Rattle.answers.specs.declared.Verdict.TheVariants.{Whole, Open, Broken}
 use Rattle.answers.specs.declared.Observation.{Observation}
 use Rattle.replies.specs.Replies.{word_of}
 use Rattle.sheet_writer.proofs.Writing.{short, long, same_bytes}
@@ -40,32 +37,29 @@ use Rattle.live.specs.Live.{Arrays, OpensBy, Opens, Notes, Live, none, call, Liv
 
 -- ---- opening
 
-module _ (sheet : List ℕ) (t : Translation) (translates : Translates sheet t) (before : Arrays) where
-  pub opens-accepted : tag_of the_type t.answer ≡ 0 → (first : List ℕ) → Freshes in_memory first → Opens sheet before 0 (record { table = t.book.table; monitor = first })
-  opens-accepted e first fresh = look (read_sheet sheet) refl (sym e ∙ ap (tag_of the_type) (answered sheet t translates))
+module _ (sheet : List ℕ) (before : Arrays) where
+  pub opens-accepted : (b : Book) → Translates sheet (Ok b) → (first : List ℕ) → Freshes in_memory first → Opens sheet before 0 (record { table = b.table; monitor = first })
+  opens-accepted b translates first fresh = look (read_sheet sheet) refl (answered sheet (Ok b) translates)
     where
-      look : (x : Outcome) → read_sheet sheet ≡ x → 0 ≡ tag_of the_type (answer_of x) → Opens sheet before 0 (record { table = t.book.table; monitor = first })
-      look (accepted S) f p = record { answers = rw f; opens = rw f (ap (λ (b : Book). b.table) (translates.keeps S f), fresh) }
-      look (refused k q) f p = absurd (omega arith)
+      look : (x : Outcome) → read_sheet sheet ≡ x → AnswerOf {A = Book} x (Ok b) → Opens sheet before 0 (record { table = b.table; monitor = first })
+      look (accepted S) f p = record { answers = rw f; opens = rw f (let own : b ≡ book_of S = cc (translates.keeps S f) in ap (λ (b : Book). b.table) own, fresh) }
+      look (refused k q) f p = absurd p
 
-  pub opens-refused : {number place : ℕ} → t.answer ≡ Refused number place → (r : ℕ) → r ≡ word_of (refused_values number place) → Opens sheet before r before
-  opens-refused {number} {place} e r is = look (read_sheet sheet) refl (sym e ∙ answered sheet t translates)
+  pub opens-refused : (e : Refused) → Translates sheet (Err e) → (r : ℕ) → r ≡ word_of (refused_values (F.number_of e.fault) e.place) → Opens sheet before r before
+  opens-refused e translates r is = look (read_sheet sheet) refl (answered sheet (Err e) translates)
     where
-      look : (x : Outcome) → read_sheet sheet ≡ x → Refused number place ≡ answer_of x → Opens sheet before r before
-      look (accepted S) f p = absurd (let z : ◌≡◌ {A = ℕ} 0 1 = cc p in omega arith)
-      look (refused k q) f p =
-          let n : number ≡ k = cc p in
-          let at : place ≡ q = cc p in
-          record { answers = is ∙ ap₂ (λ (x y : ℕ). word_of (refused_values x y)) n at ∙ sym (rw f); opens = rw f refl }
+      look : (x : Outcome) → read_sheet sheet ≡ x → AnswerOf {A = Book} x (Err e) → Opens sheet before r before
+      look (accepted S) f p = absurd p
+      look (refused k q) f p = record { answers = is ∙ ap₂ (λ (x y : ℕ). word_of (refused_values x y)) p.0 p.1 ∙ sym (rw f); opens = rw f refl }
 
 -- ---- what a number tells
 
 -- the lowest eight bits are the answer
 low_byte : (a : Answer) → word_of (values_of a) % 256 ≡ (values_of a).answer
-low_byte Whole = refl
-low_byte (Open m) = omega arith
-low_byte (Broken k m) = omega arith
-low_byte (N.Refused n) = omega arith
+low_byte (Ok Whole) = refl
+low_byte (Ok (Open m)) = omega arith
+low_byte (Ok (Broken k m)) = omega arith
+low_byte (Err why) = omega arith
 
 -- so a host that reads a refusal off the number has the monitor that it lent
 pub refused-unchanged : {table before after : List ℕ} {o : Observation} {r : ℕ} → Notes table before o r after → r % 256 ≡ 3 → after ≡ before

@@ -21,6 +21,7 @@ use Rattle.pattern.proofs.Basics.{is_true}
 use Rattle.pattern.proofs.Oracle.{model_oracle, right-oracle}
 use Rattle.pattern.proofs.Tracks.{fresh-at-rest}
 use Rattle.pattern.proofs.Agreement.{fresh-follows}
+use Rattle.std.specs.Prelude.{Result, Ok}
 use Rattle.layout.specs.Layout.{Sheet, WellFormedSheet, Bytes}
 use Rattle.layout.specs.Pages.{rule_at}
 use Rattle.layout.specs.Reading.{accepted, read_sheet}
@@ -29,7 +30,7 @@ use Rattle.layout.proofs.Accepted.{rules-formed, rule-formed}
 use Rattle.tables.specs.Cells.{is_timed}
 use Rattle.book.specs.Books.{Translates}
 use Rattle.book.specs.declared.Book.{Book}
-use Rattle.book.specs.declared.Translation.{Translation}
+use Rattle.fields.specs.declared.Refused.{Refused}
 use Rattle.book.proofs.Translated.{translated}
 use Rattle.rule_state.specs.declared.RuleState.{RuleState}
 use Rattle.step.specs.Shows.{untouched, running}
@@ -138,11 +139,12 @@ agrees_from F b S formed m f {os} {as'} {last} run = record {
       });
 }
 
--- for every accepted sheet's bytes, every form of a monitor and every list of observations: what reading, translating, opening and observing one after the other answers is what the judge
--- answers
-module _ (bytes : List ℕ) (are : Bytes bytes) (t : Translation) (translates : Translates bytes t) (S : Sheet) (is : read_sheet bytes ≡ accepted S) where
-  pub agreement : {X : Type 0} (F : Form X) (m : X) → Freshes F m → (os : List Observation) (as' : List Answer) (last : X)
-      → Run (Observes F t.book.table) m os as' last → CodeAgreement S os as' (F.held last)
-  agreement F m fresh os as' last =
+-- for every accepted sheet's bytes, every form of a monitor and every list of observations: the bytes are translated into a book, and what opening and observing one after the other under it
+-- answers is what the judge answers
+module _ (bytes : List ℕ) (are : Bytes bytes) (t : Result Book Refused) (translates : Translates bytes t) (S : Sheet) (is : read_sheet bytes ≡ accepted S) where
+  pub agreement : (b : Book) × (t ≡ Ok b) × ((X : Type 0) (F : Form X) (m : X) → Freshes F m → (os : List Observation) (as' : List Answer) (last : X)
+      → Run (Observes F b.table) m os as' last → CodeAgreement S os as' (F.held last))
+  agreement =
+      let (b, e, l) = translated bytes t are translates S is in
       let formed : WellFormedSheet S = (accepted-is-encoded bytes are is).formed in
-      agrees_from F t.book S formed m (fresh.follows S t.book formed (translated bytes t are translates S is))
+      (b, e, λ X F m fresh os as' last. agrees_from F b S formed m (fresh.follows S b formed l))

@@ -3,17 +3,15 @@
 use mathlib.Core.Path.{◌≡◌, refl, sym, ◌∙◌, ap, subst}
 use mathlib.Core.List.{List}
 use Prim.Native.Nat.{ℕ}
-use native.Mathlib.Omega.{arith}
-use denote.Enum.Declared.{tag_of}
 use Rattle.pattern.specs.Values.{verdict_values}
 use Rattle.layout.specs.Layout.{Sheet, WellFormedSheet, Bytes}
 use Rattle.layout.specs.Reading.{Outcome, accepted, refused, read_sheet}
 use Rattle.layout.proofs.Acceptance.{accepted-is-encoded}
-use Rattle.sheet.specs.contracts.Answer.{the_type}
-use Rattle.sheet.proofs.Cases.{answer_of}
+use Rattle.std.specs.Prelude.{Result, Ok, Err, ⊤}
+use Rattle.fields.specs.declared.Refused.{Refused}
+use Rattle.sheet.proofs.Cases.{AnswerOf}
 use Rattle.book.specs.Books.{Translates, book_of}
 use Rattle.book.specs.declared.Book.{Book}
-use Rattle.book.specs.declared.Translation.{Translation}
 use Rattle.book.proofs.Lookups.{looks}
 use Rattle.book.proofs.Translated.{answered}
 use Rattle.monitor.specs.Promise.{Freshes, CodeAgreement}
@@ -22,24 +20,23 @@ use Rattle.value.specs.Value.{numbers_of, by_value}
 use Rattle.value.specs.declared.Monitor.{Monitor}
 use Rattle.answers.specs.declared.Observation.{Observation}
 use Rattle.answers.specs.Cases.{Answer}
-use Rattle.session.specs.Session.{OpensBy, Opens, Session, SessionAgreement}
-use Rattle.session.specs.declared.Opened.{Opened}
+use Rattle.session.specs.Session.{Lent, OpensBy, Opens, Session, SessionAgreement}
 
 -- ---- opening
 
-module _ (bytes : List ℕ) (t : Translation) (translates : Translates bytes t) (book : Book) (monitor : Monitor) where
-  pub opens-accepted : tag_of the_type t.answer ≡ 0 → (first : Monitor) → Freshes by_value first → Opens bytes book monitor (record { answer = t.answer; book = t.book; monitor = first })
-  opens-accepted e first fresh = record { answers = translates.answers; opens = look (read_sheet bytes) refl (sym e ∙ ap (tag_of the_type) (answered bytes t translates)) }
+module _ (bytes : List ℕ) (before : Lent) where
+  pub opens-accepted : (b : Book) → Translates bytes (Ok b) → (first : Monitor) → Freshes by_value first → Opens bytes before (Ok tt) (record { book = b; monitor = first })
+  opens-accepted b translates first fresh = record { answers = translates.answers; opens = look (read_sheet bytes) refl (answered bytes (Ok b) translates) }
     where
-      look : (x : Outcome) → read_sheet bytes ≡ x → 0 ≡ tag_of the_type (answer_of x) → OpensBy x book monitor (record { answer = t.answer; book = t.book; monitor = first })
-      look (accepted S) f p = (translates.keeps S f, fresh)
-      look (refused k q) f p = absurd (omega arith)
+      look : (x : Outcome) → read_sheet bytes ≡ x → AnswerOf {A = Book} x (Ok b) → OpensBy x before (record { book = b; monitor = first })
+      look (accepted S) f p = (cc (translates.keeps S f), fresh)
+      look (refused k q) f p = absurd p
 
-  pub opens-refused : tag_of the_type t.answer ≡ 1 → Opens bytes book monitor (record { answer = t.answer; book = book; monitor = monitor })
-  opens-refused e = record { answers = translates.answers; opens = look (read_sheet bytes) (sym e ∙ ap (tag_of the_type) (answered bytes t translates)) }
+  pub opens-refused : (e : Refused) → Translates bytes (Err e) → Opens bytes before (Err e) before
+  opens-refused e translates = record { answers = translates.answers; opens = look (read_sheet bytes) (answered bytes (Err e) translates) }
     where
-      look : (x : Outcome) → 1 ≡ tag_of the_type (answer_of x) → OpensBy x book monitor (record { answer = t.answer; book = book; monitor = monitor })
-      look (accepted S) p = absurd (omega arith)
+      look : (x : Outcome) → AnswerOf {A = Book} x (Err e) → OpensBy x before before
+      look (accepted S) p = absurd p
       look (refused k q) p = (refl, refl)
 
 -- ---- the whole list
@@ -59,9 +56,9 @@ session-agreement bytes are S is m fresh os as' last s = record {
     along : CodeAgreement S os as' (numbers_of last)
     along = agrees_from by_value (book_of S) S formed m (fresh.follows S (book_of S) formed (looks S formed)) s
 
--- the same from the book and the monitor that `open_sheet` gave
-pub opened-agreement : (bytes : List ℕ) → Bytes bytes → (book : Book) (monitor : Monitor) (r : Opened) → Opens bytes book monitor r → (S : Sheet) → read_sheet bytes ≡ accepted S
-    → (os : List Observation) (as' : List Answer) (last : Monitor) → Session r.book.table r.monitor os as' last → SessionAgreement S os as' last
-opened-agreement bytes are book monitor r opens S is os as' last s =
-    let o : OpensBy (accepted S) book monitor r = subst (λ (x : Outcome). OpensBy x book monitor r) is opens.opens in
-    session-agreement bytes are S is r.monitor o.1 os as' last (subst (λ (b : Book). Session b.table r.monitor os as' last) o.0 s)
+-- the same from the book and the monitor that `open_sheet` left
+pub opened-agreement : (bytes : List ℕ) → Bytes bytes → (before after : Lent) (r : Result ⊤ Refused) → Opens bytes before r after → (S : Sheet) → read_sheet bytes ≡ accepted S
+    → (os : List Observation) (as' : List Answer) (last : Monitor) → Session after.book.table after.monitor os as' last → SessionAgreement S os as' last
+opened-agreement bytes are before after r opens S is os as' last s =
+    let o : OpensBy (accepted S) before after = subst (λ (x : Outcome). OpensBy x before after) is opens.opens in
+    session-agreement bytes are S is after.monitor o.1 os as' last (subst (λ (b : Book). Session b.table after.monitor os as' last) o.0 s)

@@ -1,10 +1,11 @@
 -- What a session promises, in the words of the monitor part's promises.
 -- Assumes nothing.
-use Rattle.std.specs.Prelude.{◌≡◌, List, map, ℕ, length, Ok}
+use Rattle.std.specs.Prelude.{◌≡◌, List, map, ℕ, length, Result, Ok, ⊤}
 use Rattle.pattern.specs.Judge.{Oracle, Right, nothing, judge_keeps}
 use Rattle.pattern.specs.Values.{verdict_values}
 use Rattle.layout.specs.Layout.{Sheet}
 use Rattle.layout.specs.Reading.{Outcome, accepted, refused, read_sheet}
+use Rattle.fields.specs.declared.Refused.{Refused}
 use Rattle.sheet.specs.Answers as R
 use Rattle.book.specs.Books.{book_of}
 use Rattle.book.specs.declared.Book.{Book}
@@ -13,18 +14,21 @@ use Rattle.value.specs.Value.{numbers_of, by_value}
 use Rattle.value.specs.declared.Monitor.{Monitor}
 use Rattle.answers.specs.declared.Observation.{Observation}
 use Rattle.answers.specs.declared.Verdict.{Verdict}
-use Rattle.session.specs.declared.Opened.{Opened}
 
--- ---- opening, by a host that has this book and this monitor
+-- ---- opening: the book and the monitor that a host lends
+
+pub record Lent : Type 0 where
+  pub book : Book
+  pub monitor : Monitor
 
 -- an accepted sheet gives its book and a fresh monitor; "A refused sheet gives no monitor": both stay as they were
-abbrev pub OpensBy : Outcome → Book → Monitor → Opened → Type 0
-OpensBy (accepted S) book monitor r = (r.book ≡ book_of S) × Freshes by_value r.monitor
-OpensBy (refused number place) book monitor r = (r.book ≡ book) × (r.monitor ≡ monitor)
+abbrev pub OpensBy : Outcome → Lent → Lent → Type 0
+OpensBy (accepted S) before after = (after.book ≡ book_of S) × Freshes by_value after.monitor
+OpensBy (refused number place) before after = (after.book ≡ before.book) × (after.monitor ≡ before.monitor)
 
-pub record Opens (bytes : List ℕ) (book : Book) (monitor : Monitor) (r : Opened) : Type 0 where
-  pub answers : R.values_of r.answer ≡ R.read_values (read_sheet bytes)
-  pub opens : OpensBy (read_sheet bytes) book monitor r
+pub record Opens (bytes : List ℕ) (before : Lent) (r : Result ⊤ Refused) (after : Lent) : Type 0 where
+  pub answers : R.values_of r ≡ R.read_values (read_sheet bytes)
+  pub opens : OpensBy (read_sheet bytes) before after
 
 -- ---- a session
 

@@ -8,42 +8,18 @@ ghost use Rattle.session.specs.Session.{Opens};
 
 use answers::{Answer, Observation, Verdict};
 use book::Book;
+use fields::Refused;
 use tables::Table;
 use value::{Answered, Monitor};
 
-// What opening a session from a sheet's bytes gives: the reader's answer, and the book and the monitor to go on with.
-#[derive(Drop)]
-pub struct Opened {
-    pub answer: sheet::Answer,
-    pub book: Book,
-    pub monitor: Monitor,
-}
-
-// Reads a sheet from any bytes: the book of an accepted one, and a fresh monitor for it. "A refused sheet gives no monitor": the book and the monitor that were handed over come back.
-pub fn open_sheet(bytes: &[u8], book: Book, monitor: Monitor) -> Opened
-    ensures { Opens bytes.now book monitor result }
+// Reads a sheet from any bytes: the book of an accepted one takes the place of the book that is lent, and a fresh monitor for it that of the monitor. "A refused sheet gives no monitor": then
+// both stay as they were.
+pub fn open_sheet(bytes: &[u8], book: &mut Book, monitor: &mut Monitor) -> Result<(), Refused>
+    ensures { Opens bytes.now (record { book = book.old; monitor = monitor.old }) result (record { book = book.new; monitor = monitor.new }) }
 {
-    let t = book::translate(bytes);
-    let answer = t.answer;
-    match answer {
-        sheet::Answer::Accepted => {
-            let made = t.book;
-            let first = value::start();
-            Opened {
-                answer: answer,
-                book: made,
-                monitor: first,
-            }
-        }
-        sheet::Answer::Refused {
-            number: _,
-            place: _,
-        } => Opened {
-            answer: answer,
-            book: book,
-            monitor: monitor,
-        },
-    }
+    *book = book::translate(bytes)?;
+    *monitor = value::start();
+    Ok(())
 }
 
 // Puts a fresh monitor, for whatever book, in the place of what stands there.

@@ -14,10 +14,10 @@ use Rattle.layout.specs.Reading.{accepted, read_sheet}
 use Rattle.layout.proofs.Acceptance.{Accepts, accepted-is-encoded}
 use Rattle.layout.proofs.Length.{sheet-length}
 use Rattle.book.specs.declared.Book.{Book}
-use Rattle.book.specs.declared.Translation.{Translation}
+use Rattle.fields.specs.declared.Refused.{Refused}
 use Rattle.book.specs.Books.{Translates}
 use Rattle.book.specs.Looks.{Looks}
-use Rattle.book.proofs.Translated.{translated, answered}
+use Rattle.book.proofs.Translated.{translated}
 use Rattle.sheet_writer.specs.declared.TooShort.{TooShort}
 use Rattle.sheet_writer.specs.Parts.{table_bytes}
 use Rattle.store.specs.Answers.{written, refused}
@@ -75,17 +75,18 @@ module _ {table before after : List ℕ} {r : Result ℕ TooShort} (writes : Wri
   every-sheet-has-room h = (long (omega (arith, h, sheet-length S accepts.formed, ap length accepts.bytes))).0
 
 -- writing its book gives its own bytes, which are read as the same sheet and translated into the same book
-pub write-then-read : (s : List ℕ) → Bytes s → (t : Translation) → Translates s t → (S : Sheet) → read_sheet s ≡ accepted S
-    → (before : List ℕ) (r : Result ℕ TooShort) (after : List ℕ) → Writes t.book.table before r after → WritesBack s t before r after
-write-then-read s bytes t translates S is before r after writes =
+pub write-then-read : (s : List ℕ) → Bytes s → (t : Result Book Refused) → Translates s t → (S : Sheet) → read_sheet s ≡ accepted S
+    → (b : Book) × (t ≡ Ok b) × ((before : List ℕ) (r : Result ℕ TooShort) (after : List ℕ) → Writes b.table before r after → WritesBack s b before r after)
+write-then-read s bytes t translates S is =
+    let (b, e, looks) = translated s t bytes translates S is in
     let accepts : Accepts today s S = accepted-is-encoded s bytes is in
-    let looks = translated s t bytes translates S is in
-    let same : length s ≤ length before → take (length s) after ≡ s = same_bytes writes s S t.book accepts looks refl in
-    record {
-      own = long writes s S t.book accepts looks refl;
-      short = short writes s S t.book accepts looks refl;
-      reads = λ h. ap read_sheet (same h);
-      again = λ h u v.
-          let w : Translates s u = subst (λ (l : List ℕ). Translates l u) (same h) v in
-          (answered s u w ∙ sym (answered s t translates), w.keeps S is ∙ sym (translates.keeps S is));
-    }
+    (
+      b, e, λ before r after writes.
+          let same : length s ≤ length before → take (length s) after ≡ s = same_bytes writes s S b accepts looks refl in
+          record {
+            own = long writes s S b accepts looks refl;
+            short = short writes s S b accepts looks refl;
+            reads = λ h. ap read_sheet (same h);
+            again = λ h u v. (subst (λ (l : List ℕ). Translates l u) (same h) v).keeps S is ∙ sym (translates.keeps S is) ∙ e;
+          },
+    )

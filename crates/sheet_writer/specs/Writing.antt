@@ -6,7 +6,7 @@ use Rattle.layout.specs.Reading.{read_sheet}
 use Rattle.book.specs.Books.{Translates}
 use Rattle.book.specs.Looks.{Looks}
 use Rattle.book.specs.declared.Book.{Book}
-use Rattle.book.specs.declared.Translation.{Translation}
+use Rattle.fields.specs.declared.Refused.{Refused}
 use Rattle.store.specs.Answers.{Answer, written, refused}
 use Rattle.sheet_writer.specs.declared.TooShort.{TooShort}
 use Rattle.sheet_writer.specs.Parts.{most_bytes}
@@ -42,13 +42,13 @@ pub record Writes (table before : List ℕ) (r : Result ℕ TooShort) (after : L
 
 -- ---- writing, then reading
 
--- sheet s, translated, written into a buffer
-pub record WritesBack (s : List ℕ) (t : Translation) (before : List ℕ) (r : Result ℕ TooShort) (after : List ℕ) : Type 0 where
+-- sheet s, whose book is b, written into a buffer
+pub record WritesBack (s : List ℕ) (b : Book) (before : List ℕ) (r : Result ℕ TooShort) (after : List ℕ) : Type 0 where
   -- "writing its book gives the sheet's own bytes"; a buffer of just the sheet's length is enough
   pub own : length s ≤ length before → (answer_of r ≡ written (length s)) × (after ≡ s ++ drop (length s) before)
   -- "buffer shorter than the sheet, nothing written"
   pub short : length before < length s → (answer_of r ≡ refused 16) × (after ≡ before)
   -- "and version": the bytes are read as the same sheet, which has its version
   pub reads : length s ≤ length before → read_sheet (take (length s) after) ≡ read_sheet s
-  -- "and reading these gives the same book": the same answer, and the same table as a value
-  pub again : length s ≤ length before → (u : Translation) → Translates (take (length s) after) u → (u.answer ≡ t.answer) × (u.book ≡ t.book)
+  -- "and reading these gives the same book": they are accepted too, and the book is the same as a value
+  pub again : length s ≤ length before → (u : Result Book Refused) → Translates (take (length s) after) u → u ≡ Ok b
