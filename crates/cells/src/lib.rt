@@ -5,7 +5,7 @@ ghost use Rattle.std.specs.Prelude.{◌≡◌, ◌<◌};
 ghost use Rattle.tables.specs.Words.{round_in};
 ghost use Rattle.cells.specs.Making.{before_from, order_from, fragment_from, clock_from, shared_cell, cell_with};
 
-// ---- what the order says of fragment f
+// ---- what the order says of fragment f. The head and f go side by side, and in no struct: `shared` is called with numbers, and would make it only to take it apart
 
 // The fragment that it follows: the first follows the last.
 fn preceding(head: u64, f: usize) -> usize

@@ -2,6 +2,7 @@
 // One path serves the four joins, and no loop goes over the ranges. Two sets say what the table of moves says of every range: `lacking`, those to which *next* would be an error, and `full`,
 // those to which *own* would be one. So an event looks up one cell, its own name's, and changes two ranges at most: the one that it names, and, where blocks stand in a row, the one that
 // counted. A name and a rule's number are reduced by a remainder, so that nothing is asked of them, of the table or of the state.
+// A cell and a state go side by side, and in no struct of both: it would be taken apart and made anew wherever the state changes.
 #![tactic(auto)]
 
 ghost use Rattle.std.specs.Prelude.{◌≡◌, ◌%◌};

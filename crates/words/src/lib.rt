@@ -44,7 +44,7 @@ pub const LENGTH: usize = TAKEN + 16;
 
 pub type Memory = [u8; LENGTH];
 
-// ---- bytes, and numbers in them, little-endian
+// ---- bytes, and numbers in them, little-endian. That they lie within the memory is asked at each function, since each takes another number of bytes
 
 // The N bytes from an offset on.
 fn bytes_at<const N: usize>(m: &Memory, at: usize) -> [u8; N]
