@@ -1,7 +1,7 @@
 -- The filling of a fragment is its recogniser's state: how often a range has come, and which came last, say where the range's recogniser stands (`state_of`). So a name may come exactly when it is an
 -- error to no range, the fragment may be left exactly when it may be followed, and it takes the words that its fillings allow, step by step; where it may not be left, the needed name may come.
 -- Assumes nothing.
-use mathlib.Core.Path.{◌≡◌, refl, sym, ◌∙◌}
+use mathlib.Core.Path.{◌≡◌, refl, sym, ◌∙◌, ap}
 use mathlib.Core.Logic.{inl, inr, ◌≢◌, ◌↔◌}
 use mathlib.Core.Bool.{Bool, true, false, cond, not, ◌&&◌, ◌||◌, true≢false, and-eq-true_iff, or-true, or-false}
 use mathlib.Core.List.{List, [], ◌∷◌}
@@ -247,18 +247,25 @@ module _ (c : Checked) where
   none-not None e = absurd (true≢false (sym e))
   none-not (Some l) e = refl
 
+  not-none : (o : Option ℕ) → is_none o ≡ false → is_some o ≡ true
+  not-none None e = absurd (true≢false e)
+  not-none (Some l) e = refl
+
+  begun-at-end : (s : Filling) → Good s → Allows s [] → is_none s.last ≡ false
+  begun-at-end s good a = elim (some-or-none s.last) [
+    | inl e ↦ let t = a.each 0 c.count.0 in absurd (rw (e, eq-eqb _ _ (good.none e 0 c.count.0)) at t)
+    | inr p ↦ ap is_none p.1
+  ]
+
   pub allows-end : (s : Filling) → Good s → Allows s [] ↔ (may_end c.fragment s ≡ true)
   allows-end s good = (end, stop)
     where
       end : Allows s [] → may_end f s ≡ true
       end a =
-          let (l, begun) : (l : ℕ) × (s.last ≡ Some l) = elim (some-or-none s.last) [
-            | inl e ↦ let t = a.each 0 c.count.0 in absurd (rw (e, eq-eqb _ _ (good.none e 0 c.count.0)) at t)
-            | inr p ↦ p
-          ] in
-          let none : (k : ℕ) → k < size → is_short f s every k ≡ false = λ k h. not-true _ (sym (stops s (rw begun refl) k h) ∙ is_true _ (a.each k h)) in
+          let begun = begun-at-end s good a in
+          let none : (k : ℕ) → k < size → is_short f s every k ≡ false = λ k h. not-true _ (sym (stops s begun k h) ∙ is_true _ (a.each k h)) in
           let past : first_short f s every ≡ size = first-at (is_short f s every) size size 0 (omega arith) (omega arith) none (λ h. absurd (omega arith)) in
-          rw (begun, eq-eqb _ _ past) refl
+          rw (not-none s.last begun, eq-eqb _ _ past) refl
 
       stop : may_end f s ≡ true → Allows s []
       stop e =
@@ -289,7 +296,7 @@ module _ (c : Checked) where
           let h = needed-within f s c.count.0 in
           (h, may← s i (λ g. first-room s i h (good.none e i h)) (λ g. (eq-eqb _ _ (good.none e i h), λ l q. absurd (some≢none (sym q ∙ e)))))
       | inr d ↦
-          let (h, short) = needed-short f s (rw d.1 refl) ends in
+          let (h, short) = needed-short f s (ap is_some d.1) ends in
           let absent : goes_on f s i ≡ false → count_of s i ≡ 0 = λ g. elim (none_or_some (count_of s i)) [ inl z ↦ z | inr p ↦ absurd (true≢false (sym (good.over i h p g) ∙ short)) ] in
           (h, may← s i (λ g. short-room s i h short) (λ g. (eq-eqb _ _ (absent g), last-enough (absent g))))
     ]

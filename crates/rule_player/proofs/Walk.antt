@@ -175,7 +175,7 @@ module _ (f : Fragment) (fs : List Fragment) (s : Filling) (bytes : List ℕ) (s
       nearer : may_end f s ≡ false → lack_in f (comes s (needed f s)) < lack_in f s
       nearer ends = elim (some-or-none s.last) [
         | inl e ↦ rw e (omega (arith, rw e at (lack-keeps f s (needed f s))))
-        | inr d ↦ let (l, short) = needed-short f s (rw d.1 refl) ends in lack-falls f s (needed f s) l (omega (arith, small.0)) short
+        | inr d ↦ let (l, short) = needed-short f s (ap is_some d.1) ends in lack-falls f s (needed f s) l (omega (arith, small.0)) short
       ]
 
 -- ---- steps enough, and a missing byte is a 0

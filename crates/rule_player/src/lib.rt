@@ -325,12 +325,9 @@ pub fn play(
     }
     let r = rule as usize;
     let places = Places::new(table);
-    let length = pass(&places, r, time, choice, out, false);
-    match length {
-        None => Err(Refusal::TooLong),
-        Some(n) => {
-            pass(&places, r, time, choice, out, true);
-            Ok(n)
-        }
-    }
+    let Some(n) = pass(&places, r, time, choice, out, false) else {
+        return Err(Refusal::TooLong);
+    };
+    pass(&places, r, time, choice, out, true);
+    Ok(n)
 }

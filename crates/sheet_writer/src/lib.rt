@@ -12,7 +12,7 @@ ghost use Rattle.sheet_writer.specs.Writing.{Writes};
 use places::Places;
 use tables::Table;
 
-// ---- each field, as it is looked up: in the table, or in the cell of a name
+// ---- each field, as it is looked up: in the table, or in the cell of a name. A function each, so that it stands beside its definition of the same name in specs/Parts
 
 fn version_field(table: &Table) -> u64
     ensures { result ≡ version_field table.now }
