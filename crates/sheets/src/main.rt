@@ -2,73 +2,41 @@
 // is due. A sheet in the input is a byte (0: the sheet alone; else every prefix of it), its length (u16, little-endian) and its bytes.
 #![tactic(auto)]
 
-ghost use Rattle.std.specs.Prelude.{◌+◌, ◌≤◌, length};
-
 use input::read_full;
 use std::io;
 
-fn tell(rt: &impl Print, s: &[u8]) -> io::Result<()> {
-    let r = sheet::read(s);
-    let answer = r.answer;
-    match answer {
-        sheet::Answer::Accepted => println!(rt; "0 0 0"),
-        sheet::Answer::Refused { number, place } => println!(rt; "3 {number} {place}"),
+fn tell(rt: &impl Print, sheet: &[u8]) -> io::Result<()> {
+    match sheet::read(sheet) {
+        Ok(_) => println!(rt; "0 0 0"),
+        Err(refused) => {
+            let number = refused.fault.number();
+            let place = refused.place;
+            println!(rt; "3 {number} {place}")
+        }
     }
 }
 
-// The bytes from a to e.
-fn tell_part(rt: &impl Print, s: &[u8], a: usize, e: usize) -> io::Result<()>
-    requires { (a ≤ e) × (e ≤ length s.now) }
-{
-    tell(rt, &s[a..e])
-}
-
-// Every prefix of the bytes from a to e.
-fn tell_prefixes(rt: &impl Print, s: &[u8], a: usize, e: usize) -> io::Result<()>
-    requires { (a ≤ e) × (e ≤ length s.now) }
-{
-    let mut n = a;
-    while n <= e {
-        tell_part(rt, s, a, n)?;
-        n = n + 1;
+fn tell_prefixes(rt: &impl Print, sheet: &[u8]) -> io::Result<()> {
+    for n in 0..=sheet.len() {
+        tell(rt, &sheet[..n])?;
     }
     Ok(())
 }
 
-fn wide(x: u8) -> usize
-    ensures { result ≤ 255 }
-{
-    x as usize
-}
-
-// A u16 of the input.
-fn length_at(s: &[u8], at: usize) -> usize
-    requires { at + 2 ≤ length s.now }
-    ensures { result ≤ 65535 }
-{
-    wide(s[at]) + 256 * wide(s[at + 1])
-}
-
-// The sheets from an offset on.
-fn tell_all(rt: &impl Print, s: &[u8]) -> io::Result<()> {
-    let mut at = 0usize;
-    while at < s.len() {
-        if s.len() - at < 3 {
-            return Ok(());
-        }
-        let alone = s[at] == 0;
-        let n = length_at(s, at + 1);
-        at = at + 3;
-        if s.len() - at < n {
-            return Ok(());
-        }
-        let end = at + n;
-        if alone {
-            tell_part(rt, s, at, end)?;
+// The sheets of the input, one after the other, as far as each is there whole.
+fn tell_all(rt: &impl Print, input: &[u8]) -> io::Result<()> {
+    let mut rest = input;
+    while let [prefixes, low, high, after @ ..] = rest {
+        let length = u16::from_le_bytes([*low, *high]);
+        let Some((sheet, others)) = after.split_at_checked(usize::from(length)) else {
+            break;
+        };
+        if *prefixes == 0 {
+            tell(rt, sheet)?;
         } else {
-            tell_prefixes(rt, s, at, end)?;
+            tell_prefixes(rt, sheet)?;
         }
-        at = end;
+        rest = others;
     }
     Ok(())
 }

@@ -1,9 +1,6 @@
--- `sheets::tell_all` is safe and ends: the offset stays inside the input and grows. Assumes nothing.
-use Rattle.std.proofs.Common.{◌≤◌, ◌-◌, length}
+-- `sheets::tell_all` ends: less of the input is left after each sheet. Assumes nothing.
+use Rattle.std.proofs.Common.{length}
 use Rattle.sheets.proofs.tell_all.Given as goal
 
-abbrev pub invariant-loop-at : goal.invariant-loop-at
-invariant-loop-at g l = l.at ≤ length l.s
-
-abbrev pub decreases-loop-at : goal.decreases-loop-at
-decreases-loop-at g l = length l.s - l.at
+abbrev pub decreases-loop-rest : goal.decreases-loop-rest
+decreases-loop-rest g l = length l.rest
