@@ -1,12 +1,10 @@
 // The program (document 01, "Running a log"): "reads files book.lob and trace.lot and prints these five numbers with single spaces and a newline, budget 4,294,967,295".
 #![tactic(auto)]
 
-ghost use Rattle.std.specs.Prelude.{◌≡◌};
-ghost use Rattle.input.specs.Counts.{IsPrefixLen};
+ghost use Rattle.std.specs.Prelude.{◌≡◌, ◌≤◌, length};
 ghost use Rattle.runner.specs.Log.{turned_away};
 ghost use Rattle.guard.specs.Prints.{Prints};
 
-use input::read_full;
 use runner::Outcome;
 use std::fs::File;
 use std::io;
@@ -29,38 +27,28 @@ fn too_long() -> Outcome
 fn numbers(sheet: &[u8], log: &[u8]) -> Outcome
     ensures { Prints sheet.now log.now result }
 {
-    if 5774 < sheet.len() {
+    if 5774 < sheet.len() || 65535 < log.len() {
         return too_long();
     }
-    if 65535 < log.len() {
-        return too_long();
-    }
-    host::outcome(sheet, log, 4294967295)
+    host::outcome(sheet, log, u32::MAX)
 }
 
-// A file's bytes, as far as the buffer goes, and how many they are: "a file that can't be opened reads as empty".
-fn load(rt: &impl Files, path: &str, buf: &mut [u8]) -> usize
-    ensures { IsPrefixLen result buf.new }
+// A file's bytes, as far as the buffer goes: "a file that can't be opened reads as empty".
+fn load<'a>(rt: &impl Files, path: &str, buf: &'a mut [u8]) -> &'a [u8]
+    ensures { length result.now ≤ length buf.old }
 {
     match File::open(rt, path) {
-        Ok(mut file) => read_full(&mut file, buf),
-        Err(_) => 0,
+        Ok(mut file) => input::read_slice(&mut file, buf),
+        Err(_) => &[],
     }
 }
 
-// Writes the line of the five numbers: what it says is proved, and that it is written is std's part.
-fn print(rt: &impl Print, o: Outcome) -> io::Result<()> {
-    let line = log_line::line_of(o);
-    let bytes = line.bytes;
-    let start = line.start;
-    rt.write_all(&bytes[start..])
-}
-
-// One byte more than each limit is read, to see a file that goes beyond it.
+// One byte more than each limit is read, to see a file that goes beyond it. What the line says is proved, and that it is written is std's part.
 fn main(rt: HostRuntime) -> io::Result<()> {
     let mut book = [0u8; 5775];
     let mut trace = [0u8; 65536];
-    let n = load(&rt, "book.lob", &mut book);
-    let k = load(&rt, "trace.lot", &mut trace);
-    print(&rt, numbers(&book[..n], &trace[..k]))
+    let sheet = load(&rt, "book.lob", &mut book);
+    let log = load(&rt, "trace.lot", &mut trace);
+    let line = log_line::line_of(numbers(sheet, log));
+    rt.write_all(line.as_slice())
 }

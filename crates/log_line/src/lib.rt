@@ -3,11 +3,10 @@
 
 mod text;
 
-pub use text::Line;
-
 ghost use Rattle.log_line.specs.Line.{Made};
 
 use runner::Outcome;
+pub use text::Line;
 
 const SPACE: u8 = b' ';
 
