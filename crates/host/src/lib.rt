@@ -26,11 +26,11 @@ fn put_outcome(out: &mut [u8], o: Outcome)
     requires { 12 ≤ length out.old }
     ensures { out.new ≡ twelve o ++ drop 12 out.old }
 {
-    store::put(out, 0, 1, u64::from(o.answer));
-    store::put(out, 1, 1, u64::from(o.refusal));
-    store::put(out, 2, 2, u64::from(o.mask));
-    store::put(out, 4, 4, u64::from(o.taken));
-    store::put(out, 8, 4, u64::from(o.place));
+    store::put(out, 0, 1, o.answer as u64);
+    store::put(out, 1, 1, o.refusal as u64);
+    store::put(out, 2, 2, o.mask as u64);
+    store::put(out, 4, 4, o.taken as u64);
+    store::put(out, 8, 4, o.place as u64);
 }
 
 // The call. "15 output under 12 bytes: it is unchanged and the call returns 15 (else 0)". Else the twelve bytes of the five numbers are written, and the output's other bytes stay.

@@ -3,7 +3,7 @@
 // another layout does not link.
 #![tactic(auto)]
 
-ghost use Rattle.std.specs.Prelude.{◌≡◌};
+ghost use Rattle.std.specs.Prelude.{◌≡◌, ◌<◌};
 ghost use Rattle.layout.specs.Terms.{today};
 ghost use Rattle.words.specs.Words.{held_by};
 ghost use Rattle.answers.specs.declared.Observation.TheVariants.{Event, Clock};
@@ -24,8 +24,10 @@ pub extern "C" fn guard4_open(sheet: &[u8], book: &mut Table, monitor: &mut Memo
 {
     match book::translate(sheet) {
         Ok(opened) => {
-            *book = opened.table;
-            *monitor = monitor::fresh();
+            let table = opened.table;
+            let first = monitor::fresh();
+            *book = table;
+            *monitor = first;
             0
         }
         Err(refused) => replies::refused_word(refused.fault.number(), refused.place as u32),
@@ -37,7 +39,8 @@ pub extern "C" fn guard4_open(sheet: &[u8], book: &mut Table, monitor: &mut Memo
 pub extern "C" fn guard4_start(monitor: &mut Memory)
     ensures { Freshes in_memory monitor.new }
 {
-    *monitor = monitor::fresh();
+    let first = monitor::fresh();
+    *monitor = first;
 }
 
 // One event, under the book whose table is lent. A name of 64 or more, of whatever width, is one that the judge refuses.

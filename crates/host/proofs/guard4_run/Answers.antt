@@ -10,4 +10,4 @@ returns-then-out-lt12 c =
 pub returns : goal.returns
 returns c =
     let s = c.args in
-    written s.sheet.now s.log.now s.budget s.out.now _ c.if-out-lt12.false c.outcome-o.ensures c.put_outcome.ensures
+    written s.sheet.now s.log.now s.budget s.out.now _ c.if-out-lt12.false c.outcome.ensures c.put_outcome.ensures
