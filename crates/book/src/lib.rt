@@ -10,6 +10,7 @@ ghost use Rattle.book.specs.Books.{Translates, book_from};
 use fields::Refused;
 use parts::RuleTables;
 use sheet::Pages;
+use std::array;
 use tables::Table;
 
 // ---- the names of each fragment
@@ -21,21 +22,16 @@ fn fragment_set(rules: &RuleTables, k: usize) -> u64
 {
     let count = tables::ranges_in(rules.fragments[k]) as usize;
     let base = 8 * k;
-    let mut set = 0;
-    for i in 0..count {
-        set = names::with(set, tables::bit(rules.ranges[base + i]));
-    }
-    set
+    let ranges = &rules.ranges[base..base + count];
+    ranges
+        .iter()
+        .fold(0, |set, word| names::with(set, tables::bit(*word)))
 }
 
 fn name_table(rules: &RuleTables) -> [u64; 256]
     ensures { result ≡ name_table rules.now.fragments rules.now.ranges }
 {
-    let mut names = [0; 256];
-    for k in 0..256 {
-        names[k] = fragment_set(rules, k);
-    }
-    names
+    array::from_fn(|k| fragment_set(rules, k))
 }
 
 // ---- the rules of each name
@@ -47,21 +43,14 @@ fn rule_set(rules: &RuleTables, names: &[u64; 256], r: usize) -> u64
 {
     let count = tables::fragments_in_round(rules.heads[r]) as usize;
     let base = 16 * r;
-    let mut set = 0;
-    for i in 0..count {
-        set |= names[base + i];
-    }
-    set
+    let of_fragments = &names[base..base + count];
+    of_fragments.iter().fold(0, |set, of_one| set | *of_one)
 }
 
 fn rule_table(rules: &RuleTables, names: &[u64; 256]) -> [u64; 16]
     ensures { result ≡ rule_table rules.now.heads names.now }
 {
-    let mut sets = [0; 16];
-    for r in 0..16 {
-        sets[r] = rule_set(rules, names, r);
-    }
-    sets
+    array::from_fn(|r| rule_set(rules, names, r))
 }
 
 // The mask, with rule r if its set has name m.
