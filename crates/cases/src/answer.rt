@@ -1,7 +1,7 @@
 // The five numbers of an answer, as the host's call writes them in twelve bytes.
 use std::fmt;
 
-// `answer` is 0 for whole, 1 for open, 2 for broken and 3 for refused.
+// `answer` is 0 for whole, 1 for open, 2 for broken and 3 for refused. It and the refusal stay numbers: any that the call writes is printed as it is.
 #[derive(Clone, Copy, PartialEq, Eq)]
 pub struct Answer {
     pub answer: u8,

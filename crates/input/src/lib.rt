@@ -12,6 +12,7 @@ pub fn read_full<R: Read>(from: &mut R, buf: &mut [u8]) -> usize
     ensures { IsPrefixLen result buf.new }
 {
     let mut done = 0;
+    // The count grows by what each read gives, so no range or iterator goes over it.
     while done < buf.len() {
         let n = from.read(&mut buf[done..]).unwrap_or(0);
         if n == 0 {

@@ -3,177 +3,158 @@
 // of records (u16), all little-endian, the sheet's bytes, and for each record a name or 255 for a clock reading and a time (u32).
 #![tactic(auto)]
 
-ghost use Rattle.std.specs.Prelude.{◌+◌, ◌*◌, ◌≤◌, ◌<◌, length};
+ghost use Rattle.std.specs.Prelude.{◌+◌, ◌≤◌, length, IfSome};
+ghost use Rattle.std.specs.Iterator.{at_most};
 
 use answers::{Answer, Observation};
-use input::read_full;
-use std::io;
+use book::Book;
+use std::{fmt, io};
 use tables::Table;
 use value::{Answered, Monitor};
 
-fn print(rt: &impl Print, n: u64) -> io::Result<()> {
-    print!(rt; "{n}")
+// ---- the input
+
+#[derive(Clone, Copy)]
+struct Case<'a> {
+    taken: u32,
+    sheet: &'a [u8],
+    records: &'a [u8],
 }
 
-// w whole, o with the mask of the open rules, b with k and the mask of the rules broken, r with the refusal's number.
-fn tell(rt: &impl Print, a: Answer) -> io::Result<()> {
-    match a {
-        Answer::Whole => print!(rt; " w"),
-        Answer::Open(mask) => {
-            print!(rt; " o")?;
-            print(rt, mask as u64)
-        }
-        Answer::Broken(k, mask) => {
-            print!(rt; " b")?;
-            print(rt, k as u64)?;
-            print!(rt; ":")?;
-            print(rt, mask as u64)
-        }
-        Answer::Refused(n) => {
-            print!(rt; " r")?;
-            print(rt, n as u64)
-        }
+// The first case of the input, and what comes after it.
+fn split_case(input: &[u8]) -> Option<(Case<'_>, &[u8])>
+    ensures { IfSome result (λ p. length p.1.now + 8 ≤ length input.now) }
+{
+    let (head, rest) = input.split_first_chunk::<8>()?;
+    let [t0, t1, t2, t3, n0, n1, k0, k1] = *head;
+    let bytes = usize::from(u16::from_le_bytes([n0, n1]));
+    let count = usize::from(u16::from_le_bytes([k0, k1]));
+    let (sheet, rest) = rest.split_at_checked(bytes)?;
+    let (records, rest) = rest.split_at_checked(5 * count)?;
+    let taken = u32::from_le_bytes([t0, t1, t2, t3]);
+    let case = Case {
+        taken,
+        sheet,
+        records,
+    };
+    Some((case, rest))
+}
+
+// The cases of the input that is left.
+#[derive(Drop)]
+struct Cases<'a>(&'a [u8]);
+
+impl<'a> Iterator for Cases<'a> {
+    type Item = Case<'a>;
+
+    ghost remaining = { λ s. at_most (length s.0.now) };
+
+    fn next(&mut self) -> Option<Case<'a>> {
+        let (case, rest) = split_case(self.0)?;
+        self.0 = rest;
+        Some(case)
     }
 }
 
-fn wide(x: u8) -> u32
-    ensures { result ≤ 255 }
-{
-    x as u32
-}
-
-fn two(s: &[u8], at: usize) -> u32
-    requires { at + 2 ≤ length s.now }
-    ensures { result ≤ 65535 }
-{
-    wide(s[at]) + 256 * wide(s[at + 1])
-}
-
-fn four(s: &[u8], at: usize) -> u32
-    requires { at + 4 ≤ length s.now }
-{
-    two(s, at) + 65536 * two(s, at + 2)
-}
-
-// The record at an offset.
-fn observation(s: &[u8], at: usize) -> Observation
-    requires { at + 5 ≤ length s.now }
-{
-    let name = s[at];
-    let time = four(s, at + 1);
+fn observation(record: &[u8; 5]) -> Observation {
+    let [name, t0, t1, t2, t3] = *record;
+    let time = u32::from_le_bytes([t0, t1, t2, t3]);
     match name {
         255 => Observation::Clock(time),
         _ => Observation::Event(name, time),
     }
 }
 
-fn turned(lent: bool, table: &Table, m: Monitor, o: Observation) -> Answered {
-    if lent {
-        return lending::observed(m, table, o);
-    }
-    value::step(table, m, o)
-}
-
-fn verdict_of(lent: bool, m: Monitor) -> Answer {
-    if lent {
-        return lending::verdict_of(m);
-    }
-    value::verdict_of(m)
-}
-
-fn taken_by(lent: bool, m: Monitor) -> u32 {
-    if lent {
-        return lending::taken_by(m);
-    }
-    value::taken_by(m)
-}
-
-// One record, observed by value or by lending the monitor to the session, and told.
-fn step(
-    rt: &impl Print,
-    lent: bool,
-    table: &Table,
-    m: Monitor,
-    o: Observation,
-) -> io::Result<Monitor> {
-    let r = turned(lent, table, m, o);
-    let answer = r.answer;
-    tell(rt, answer)?;
-    let next = r.monitor;
-    Ok(next)
-}
-
-// The records of a part of the input.
-fn observe_all(
-    rt: &impl Print,
-    lent: bool,
-    table: &Table,
-    start: Monitor,
-    log: &[u8],
-) -> io::Result<Monitor> {
-    let mut m = start;
-    let mut at = 0usize;
-    while at < log.len() {
-        if log.len() - at < 5 {
-            return Ok(m);
-        }
-        m = step(rt, lent, table, m, observation(log, at))?;
-        at = at + 5;
-    }
-    Ok(m)
-}
-
-fn replay(rt: &impl Print, lent: bool, taken: u32, sheet: &[u8], log: &[u8]) -> io::Result<()> {
+fn book_of(sheet: &[u8]) -> Book {
     let t = book::translate(sheet);
-    let b = t.book;
-    let table = b.table;
+    t.book
+}
+
+// ---- the calls
+
+// The exported calls, for a caller that keeps a monitor.
+trait Calls {
+    fn observed(table: &Table, m: Monitor, o: Observation) -> Answered;
+
+    fn verdict_of(m: Monitor) -> Answer;
+
+    fn taken_by(m: Monitor) -> u32;
+}
+
+// The monitor is handed over.
+struct ByValue;
+
+impl Calls for ByValue {
+    fn observed(table: &Table, m: Monitor, o: Observation) -> Answered {
+        value::step(table, m, o)
+    }
+
+    fn verdict_of(m: Monitor) -> Answer {
+        value::verdict_of(m)
+    }
+
+    fn taken_by(m: Monitor) -> u32 {
+        value::taken_by(m)
+    }
+}
+
+// The monitor is lent to the session.
+struct ByLending;
+
+impl Calls for ByLending {
+    fn observed(table: &Table, m: Monitor, o: Observation) -> Answered {
+        lending::observed(m, table, o)
+    }
+
+    fn verdict_of(m: Monitor) -> Answer {
+        lending::verdict_of(m)
+    }
+
+    fn taken_by(m: Monitor) -> u32 {
+        lending::taken_by(m)
+    }
+}
+
+// ---- the answers
+
+// w whole, o with the mask of the open rules, b with k and the mask of the rules broken, r with the refusal's number.
+#[derive(Drop)]
+struct Told(Answer);
+
+impl fmt::Display for Told {
+    fn fmt<W: fmt::Write>(&self, f: &mut fmt::Formatter<W>) -> fmt::Result {
+        match self.0 {
+            Answer::Whole => write!(f, "w"),
+            Answer::Open(mask) => write!(f, "o{mask}"),
+            Answer::Broken(k, mask) => write!(f, "b{k}:{mask}"),
+            Answer::Refused(number) => write!(f, "r{number}"),
+        }
+    }
+}
+
+// Replays a case, and writes a word for each record, and after them the verdict and the number taken.
+fn replay<C: Calls>(rt: &impl Print, case: &Case) -> io::Result<()> {
+    let b = book_of(case.sheet);
     let mut m = value::start();
-    m.taken = taken;
-    let last = observe_all(rt, lent, &table, m, log)?;
-    print!(rt; " |")?;
-    tell(rt, verdict_of(lent, last))?;
-    print!(rt; " ")?;
-    print(rt, taken_by(lent, last) as u64)?;
-    println!(rt)
+    m.taken = case.taken;
+    let (records, _) = case.records.as_chunks::<5>();
+    for record in records {
+        let answered = C::observed(&b.table, m, observation(record));
+        print!(rt; " {}", Told(answered.answer))?;
+        m = answered.monitor;
+    }
+    println!(rt; " | {} {}", Told(C::verdict_of(m)), C::taken_by(m))
 }
 
-fn replay_part(
-    rt: &impl Print,
-    s: &[u8],
-    taken: u32,
-    a: usize,
-    e: usize,
-    end: usize,
-) -> io::Result<()>
-    requires { (a ≤ e) × ((e ≤ end) × (end ≤ length s.now)) }
-{
-    replay(rt, false, taken, &s[a..e], &s[e..end])?;
-    replay(rt, true, taken, &s[a..e], &s[e..end])
-}
-
-fn replay_all(rt: &impl Print, s: &[u8]) -> io::Result<()> {
-    let mut at = 0usize;
-    while at < s.len() {
-        if s.len() - at < 8 {
-            return Ok(());
-        }
-        let taken = four(s, at);
-        let n = two(s, at + 4) as usize;
-        let records = two(s, at + 6) as usize;
-        at = at + 8;
-        if s.len() - at < n + 5 * records {
-            return Ok(());
-        }
-        let middle = at + n;
-        let end = middle + 5 * records;
-        replay_part(rt, s, taken, at, middle, end)?;
-        at = end;
+fn replay_all(rt: &impl Print, input: &[u8]) -> io::Result<()> {
+    for case in Cases(input) {
+        replay::<ByValue>(rt, &case)?;
+        replay::<ByLending>(rt, &case)?;
     }
     Ok(())
 }
 
 fn main(rt: HostRuntime) -> io::Result<()> {
     let mut buffer = [0u8; 65536];
-    let n = read_full(&mut rt.reader(), &mut buffer);
-    replay_all(&rt, &buffer[..n])
+    replay_all(&rt, input::read_slice(&mut rt.reader(), &mut buffer))
 }
