@@ -8,8 +8,13 @@ pub mod read;
 pub mod tally;
 
 ghost use Rattle.std.specs.Prelude.{◌≡◌, ◌≤◌, length, IfSome, OnErr};
+ghost use Rattle.layout.specs.Layout.{Sheet};
+ghost use Rattle.layout.specs.Reading.{accepted, read_sheet};
+ghost use Rattle.book.specs.Books.{book_of};
 
 use answer::Answer;
+use book::Book;
+use fields::Fault;
 use read::{read_array, read_part, read_u32};
 use std::io;
 use std::io::Read;
@@ -48,6 +53,21 @@ impl<'a> Case<'a> {
     fn is_accepted(&self) -> bool {
         self.due.answer != 3 || self.due.refusal > 10
     }
+}
+
+// The book that a case or a play is run with. A refused sheet has none: bytes that are left over after its last rule are passed over, and of any other no rule is kept.
+pub fn book_of(sheet: &[u8]) -> Book
+    ensures { (S : Sheet) → read_sheet sheet.now ≡ accepted S → result ≡ book_of S }
+{
+    let bytes = match book::translate(sheet) {
+        Err(refused) if refused.fault == Fault::BytesLeftOver => sheet
+            .get(..refused.place)
+            .unwrap_or(sheet),
+        _ => sheet,
+    };
+    book::translate(bytes).unwrap_or(Book {
+        table: [0; tables::LENGTH],
+    })
 }
 
 // Counts the case as due and, where it agrees, as met. A write that fails leaves it counted as due alone.

@@ -1,8 +1,7 @@
 // The program (document 01, "Running a log"): "reads files book.lob and trace.lot and prints these five numbers with single spaces and a newline, budget 4,294,967,295".
 #![tactic(auto)]
 
-ghost use Rattle.std.specs.Prelude.{◌≡◌, ◌≤◌, length};
-ghost use Rattle.runner.specs.Log.{turned_away};
+ghost use Rattle.std.specs.Prelude.{◌≤◌, length};
 ghost use Rattle.guard.specs.Prints.{Prints};
 
 use runner::Outcome;
@@ -10,25 +9,12 @@ use std::fs::File;
 use std::io;
 use std::rt::Files;
 
-// `3 0 0 0 0`
-fn too_long() -> Outcome
-    ensures { result ≡ turned_away 0 0 }
-{
-    Outcome {
-        answer: 3,
-        refusal: 0,
-        mask: 0,
-        taken: 0,
-        place: 0,
-    }
-}
-
 // The five numbers. "a book.lob beyond 5,774 bytes or a trace.lot beyond 65,535 is printed as `3 0 0 0 0`", before anything else is looked at.
 fn numbers(sheet: &[u8], log: &[u8]) -> Outcome
     ensures { Prints sheet.now log.now result }
 {
     if 5774 < sheet.len() || 65535 < log.len() {
-        return too_long();
+        return runner::turned_away(0, 0);
     }
     host::outcome(sheet, log, u32::MAX)
 }

@@ -6,8 +6,7 @@
 ghost use Rattle.std.specs.Prelude.{◌+◌, ◌≤◌, length, IfSome};
 ghost use Rattle.std.specs.Iterator.{at_most};
 
-use answers::{Answer, Observation};
-use book::Book;
+use answers::{Answer, Observation, Verdict};
 use std::{fmt, io};
 use tables::Table;
 use value::{Answered, Monitor};
@@ -65,18 +64,13 @@ fn observation(record: &[u8; 5]) -> Observation {
     }
 }
 
-fn book_of(sheet: &[u8]) -> Book {
-    let t = book::translate(sheet);
-    t.book
-}
-
 // ---- the calls
 
 // The exported calls, for a caller that keeps a monitor.
 trait Calls {
     fn observed(table: &Table, m: Monitor, o: Observation) -> Answered;
 
-    fn verdict_of(m: Monitor) -> Answer;
+    fn verdict_of(m: Monitor) -> Verdict;
 
     fn taken_by(m: Monitor) -> u32;
 }
@@ -89,7 +83,7 @@ impl Calls for ByValue {
         value::step(table, m, o)
     }
 
-    fn verdict_of(m: Monitor) -> Answer {
+    fn verdict_of(m: Monitor) -> Verdict {
         value::verdict_of(m)
     }
 
@@ -106,7 +100,7 @@ impl Calls for ByLending {
         lending::observed(m, table, o)
     }
 
-    fn verdict_of(m: Monitor) -> Answer {
+    fn verdict_of(m: Monitor) -> Verdict {
         lending::verdict_of(m)
     }
 
@@ -124,17 +118,17 @@ struct Told(Answer);
 impl fmt::Display for Told {
     fn fmt<W: fmt::Write>(&self, f: &mut fmt::Formatter<W>) -> fmt::Result {
         match self.0 {
-            Answer::Whole => write!(f, "w"),
-            Answer::Open(mask) => write!(f, "o{mask}"),
-            Answer::Broken(k, mask) => write!(f, "b{k}:{mask}"),
-            Answer::Refused(number) => write!(f, "r{number}"),
+            Ok(Verdict::Whole) => write!(f, "w"),
+            Ok(Verdict::Open(mask)) => write!(f, "o{mask}"),
+            Ok(Verdict::Broken(k, mask)) => write!(f, "b{k}:{mask}"),
+            Err(why) => write!(f, "r{}", why.number()),
         }
     }
 }
 
 // Replays a case, and writes a word for each record, and after them the verdict and the number taken.
 fn replay<C: Calls>(rt: &impl Print, case: &Case) -> io::Result<()> {
-    let b = book_of(case.sheet);
+    let b = cases::book_of(case.sheet);
     let mut m = value::start();
     m.taken = case.taken;
     let (records, _) = case.records.as_chunks::<5>();
@@ -143,7 +137,7 @@ fn replay<C: Calls>(rt: &impl Print, case: &Case) -> io::Result<()> {
         print!(rt; " {}", Told(answered.answer))?;
         m = answered.monitor;
     }
-    println!(rt; " | {} {}", Told(C::verdict_of(m)), C::taken_by(m))
+    println!(rt; " | {} {}", Told(Ok(C::verdict_of(m))), C::taken_by(m))
 }
 
 fn replay_all(rt: &impl Print, input: &[u8]) -> io::Result<()> {

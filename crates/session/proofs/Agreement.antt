@@ -22,23 +22,6 @@ use Rattle.answers.specs.declared.Observation.{Observation}
 use Rattle.answers.specs.Cases.{Answer}
 use Rattle.session.specs.Session.{Lent, OpensBy, Opens, Session, SessionAgreement}
 
--- ---- opening
-
-module _ (bytes : List ℕ) (before : Lent) where
-  pub opens-accepted : (b : Book) → Translates bytes (Ok b) → (first : Monitor) → Freshes by_value first → Opens bytes before (Ok tt) (record { book = b; monitor = first })
-  opens-accepted b translates first fresh = record { answers = translates.answers; opens = look (read_sheet bytes) refl (answered bytes (Ok b) translates) }
-    where
-      look : (x : Outcome) → read_sheet bytes ≡ x → AnswerOf {A = Book} x (Ok b) → OpensBy x before (record { book = b; monitor = first })
-      look (accepted S) f p = (cc (translates.keeps S f), fresh)
-      look (refused k q) f p = absurd p
-
-  pub opens-refused : (e : Refused) → Translates bytes (Err e) → Opens bytes before (Err e) before
-  opens-refused e translates = record { answers = translates.answers; opens = look (read_sheet bytes) (answered bytes (Err e) translates) }
-    where
-      look : (x : Outcome) → AnswerOf {A = Book} x (Err e) → OpensBy x before before
-      look (accepted S) p = absurd p
-      look (refused k q) p = (refl, refl)
-
 -- ---- the whole list
 
 -- for every accepted sheet's bytes, the book of the sheet, every monitor that `start` has put in place and every list of observations: the calls in place answer what the judge answers

@@ -7,14 +7,12 @@
 // reference/make.py makes the files, says their formats, and makes what must be printed.
 #![tactic(auto)]
 
-use book::Book;
 use cases::answer::Answer;
 use cases::play::Play;
 use cases::read::{read_part, read_u16, read_u32};
 use cases::tally::Tally;
 use cases::{Case, play};
-use rule_player::Played;
-use sheet_writer::Written;
+use rule_player::Refusal;
 use std::fs::File;
 use std::io;
 use tables::Table;
@@ -30,20 +28,7 @@ const PLAY_ROOM: usize = 2048;
 // What an output is filled with before a play: no name, so that no record leaves it as it is.
 const FILL: u8 = 165;
 
-fn book_of(sheet: &[u8]) -> Book {
-    let t = book::translate(sheet);
-    t.book
-}
-
 // ---- the book, written back
-
-// Writes the book, and answers how many bytes it took; `None` where the buffer is shorter.
-fn write(table: &Table, buffer: &mut [u8]) -> Option<usize> {
-    match sheet_writer::write(table, buffer) {
-        Written::Bytes(n) => Some(n),
-        Written::TooShort => None,
-    }
-}
 
 // The book is written as these bytes, into a buffer of just their length.
 fn writes(table: &Table, bytes: &[u8]) -> bool {
@@ -51,14 +36,14 @@ fn writes(table: &Table, bytes: &[u8]) -> bool {
     let Some(buffer) = buffer.get_mut(..bytes.len()) else {
         return false;
     };
-    write(table, buffer) == Some(bytes.len()) && bytes == &buffer[..]
+    sheet_writer::write(table, buffer) == Ok(bytes.len()) && bytes == &buffer[..]
 }
 
 // The book is refused a buffer of so many bytes.
 fn is_too_short(table: &Table, room: usize) -> bool {
     let mut buffer = [0u8; SHEET_ROOM];
     match buffer.get_mut(..room) {
-        Some(buffer) => write(table, buffer).is_none(),
+        Some(buffer) => sheet_writer::write(table, buffer).is_err(),
         None => false,
     }
 }
@@ -68,7 +53,7 @@ fn is_written_back(sheet: &[u8]) -> bool {
     let Some((_, shorter)) = sheet.split_last() else {
         return false;
     };
-    let b = book_of(sheet);
+    let b = cases::book_of(sheet);
     is_too_short(&b.table, shorter.len()) && writes(&b.table, sheet)
 }
 
@@ -124,11 +109,11 @@ fn run_file(rt: &impl Print, file: &mut File, tally: &mut Tally) -> io::Result<(
 // ---- the plays
 
 // The number of records, or 2^64 less 17 or 18.
-fn answer_of(p: Played) -> u64 {
-    match p {
-        Played::Records(n) => n as u64,
-        Played::NoRule => play::NO_RULE,
-        Played::TooLong => play::TOO_LONG,
+fn answer_of(answer: Result<usize, Refusal>) -> u64 {
+    match answer {
+        Ok(records) => records as u64,
+        Err(Refusal::NoRule) => play::NO_RULE,
+        Err(Refusal::TooLong) => play::TOO_LONG,
     }
 }
 
@@ -192,7 +177,7 @@ fn run_sheets(rt: &impl Print, file: &mut File, total: u32, tally: &mut Tally) -
         let Some(plays) = read_u16(file) else {
             break;
         };
-        let b = book_of(sheet);
+        let b = cases::book_of(sheet);
         run_plays(rt, file, number, plays, &b.table, tally)?;
     }
     Ok(())
