@@ -48,6 +48,7 @@ impl Refusal {
 pub type Answer = Result<Verdict, Refusal>;
 
 // "If rules break at it, the book stops: the answer is broken, k and a 16-bit mask of the rules broken at k." "Otherwise the answer is open with the mask of open rules, or whole if that mask is 0."
+// In memory a verdict is its number, 0, 1 or 2, beside its mask.
 pub fn judged(m: &mut Memory, p: Masks, k: u32, time: u32) -> Verdict
     ensures { Judges m.old p k time result m.new }
 {

@@ -1,4 +1,5 @@
-// A host's session (document 01, "Observing"): one monitor, lent to the guard and changed in place. Each call takes the state out, calls the monitor part by value and puts what it returns back; it rests on that part's promises alone.
+// A host's session (document 01, "Observing"): one monitor, lent to the guard and changed in place. Each call takes the state out, calls the monitor part by value and puts what it returns
+// back; it rests on that part's promises alone.
 #![tactic(auto)]
 
 ghost use Rattle.std.specs.Prelude.{◌≡◌};
@@ -29,8 +30,10 @@ pub fn start(m: &mut Monitor)
     *m = value::start();
 }
 
-// One observation of the session's monitor under the book whose table is lent: the judge's answer, and the monitor is left as one that follows what the judge then keeps. A refused observation leaves it equal, and so does each one after a break.
-// For a table or a monitor that these calls did not make, or a monitor that has observed under another book, the verdict is the program's choice; the answer is one of the four, and refused exactly as the monitor's own numbers say. The call returns, and touches nothing but the monitor.
+// One observation of the session's monitor under the book whose table is lent: the judge's answer, and the monitor is left as one that follows what the judge then keeps. A
+// refused observation leaves it equal, and so does each one after a break.
+// For a table or a monitor that these calls did not make, or a monitor that has observed under another book, the verdict is the program's choice; the
+// answer is one of the four, and refused exactly as the monitor's own numbers say. The call returns, and touches nothing but the monitor.
 pub fn observe(m: &mut Monitor, table: &Table, o: Observation) -> Answer
     ensures { Observes by_value table.now m.old o result m.new }
 {

@@ -13,7 +13,8 @@ use tables::Table;
 use words::Memory;
 
 // "The monitor's state holds, for each rule, its fragment number, eight recogniser states, .. and the end time of P", and "eight counts for a fragment where it kept one" (document 02,
-// change 1). Beside the sixteen: the number taken, the latest time, the verdict (0 whole, 1 open, 2 broken) with its mask, and the rules whose deadline runs.
+// change 1). Beside the sixteen: the number taken, the latest time, the verdict (0 whole, 1 open, 2 broken) with its mask, and the rules whose deadline runs. They are the numbers that
+// memory holds (`numbers_of`), and a caller may have made any, so the verdict stays a number.
 #[derive(Clone, Copy)]
 pub struct Monitor {
     pub rules: [RuleState; 16],
