@@ -9,7 +9,10 @@ use Rattle.fields.specs.Faults.{number_of}
 use Rattle.fields.specs.Told.{Told, Ended, a_part}
 use Rattle.fields.specs.declared.Reader.{Reader}
 use Rattle.fields.specs.declared.Refused.{Refused}
-use Rattle.sheet.specs.Shown.{no_pages, SheetShown}
+use Rattle.parts.specs.Shown.{no_rules}
+use Rattle.parts.specs.declared.RuleTables.{RuleTables}
+use Rattle.sheet.specs.Shown.{SheetShown}
+use Rattle.sheet.specs.declared.Opening.{Opening}
 use Rattle.sheet.specs.Answers.{read_values, pages_of, Reads}
 use Rattle.sheet.specs.declared.Pages.{Pages}
 use Rattle.sheet.proofs.read.Goals as goal
@@ -20,19 +23,21 @@ not-both e f = let z : ◌≡◌ {A = ℕ} 0 1 = cc (e, f) in omega arith
 same-sheet : {S T : Sheet} {o : Outcome} → o ≡ accepted S → o ≡ accepted T → S ≡ T
 same-sheet e f = cc (e, f)
 
-pages-of : {p₀ p : Pages} (S : Sheet) → p₀ ≡ no_pages → SheetShown p₀ p S → p ≡ pages_of S
+-- tables that were those of no rules, and the header's fields
+made : {t₀ t : RuleTables} {o : Opening} (S : Sheet) → t₀ ≡ no_rules → SheetShown t₀ t o S
+    → ◌≡◌ {A = Pages} (record { version = o.version; outputs = o.outputs; count = o.count; tables = t }) (pages_of S)
 unfolding head_table fragment_table range_table
-pages-of {p₀} {p} S none w =
-    let t = w.tables' in
+made {t₀} {t} {o} S none shown =
+    let w = shown.tables' in
     let same : ◌≡◌ {A = Pages}
     (record {
-      version = p.version;
-      outputs = p.outputs;
-      count = p.count;
-      tables = record { heads = p.tables.heads; fragments = p.tables.fragments; ranges = p.tables.ranges };
+      version = o.version;
+      outputs = o.outputs;
+      count = o.count;
+      tables = record { heads = t.heads; fragments = t.fragments; ranges = t.ranges };
     })
     (pages_of S)
-    = rw (w.version', w.outputs', w.count', t.heads', t.fragments, t.ranges, none) in
+    = rw (shown.version', shown.outputs', shown.count', w.heads', w.fragments, w.ranges, none) in
     same
 
 module _ (s : List ℕ) where
@@ -64,12 +69,11 @@ module _ (s : List ℕ) where
         let none : length s ≤ r₁.at = rw same at all in
         accepts (rw (e, le-ltb r₁.at (length s) none)) p
 
-pub returns-in_err-sheet : goal.returns-in_err-sheet
-returns-in_err-sheet c = stops _ c.new-r.ensures c.in_err-sheet.ensures c.from_residual.ensures.1
+pub returns-in_err-o : goal.returns-in_err-o
+returns-in_err-o c = stops _ c.new-r.ensures c.in_err-o.ensures c.from_residual.ensures.1
 
 pub returns-in_err-end : goal.returns-in_err-end
-returns-in_err-end c = leaves _ c.new-r.ensures c.in_ok-sheet.ensures c.in_err-end.ensures c.from_residual-in_err-end.ensures.1
+returns-in_err-end c = leaves _ c.new-r.ensures c.in_ok-o.ensures c.in_err-end.ensures c.from_residual-in_err-end.ensures.1
 
 pub returns : goal.returns
-returns c =
-    let t = c.in_ok-sheet.ensures in ends _ c.new-r.ensures t c.in_ok-end.ensures (pages-of t.says.value c.no_pages-pages.ensures t.says.shows)
+returns c = let t = c.in_ok-o.ensures in ends _ c.new-r.ensures t c.in_ok-end.ensures (made t.says.value c.new-tables.ensures t.says.shows)
