@@ -52,10 +52,12 @@ impl Counts {
     }
 }
 
+// The answers and what a break came by, in words, by their numbers.
 const ANSWERS: [&str; 4] = ["whole", "open", "broken", "refused"];
 
 const CAUSES: [&str; 4] = ["nothing", "an own event", "a foreign event", "the clock"];
 
+// What is due, and what of it was met.
 #[derive(Clone, Copy, Default)]
 pub struct Tally {
     pub dues: Counts,
