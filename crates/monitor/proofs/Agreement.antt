@@ -86,8 +86,8 @@ module _ (S : Sheet) (formed : WellFormedSheet S) where
   }
 
 -- what the code's fresh monitor promises follows from what its memory holds
-pub fresh-promise : {m : List ℕ} → Clean m fresh_held → Freshes in_memory m
-fresh-promise h = record {
+pub fresh_promise : {m : List ℕ} → Clean m fresh_held → Freshes in_memory m
+fresh_promise h = record {
   fits = h.holds.fits;
   holds = h.holds.held;
   blank = h.blank;

@@ -16,6 +16,7 @@ use words::Memory;
 // observation leaves every byte as it was, and so does each one after a break.
 // For a table or bytes that these calls did not make, or a monitor opened for another book, the verdict is the program's choice; the answer is one of the four, and refused exactly as the
 // numbers in the memory say. The call returns, and touches nothing but the memory.
+#[tactic(auto, using(crate::proofs::Observing::promise))]
 pub fn observe(table: &Table, m: &mut Memory, o: Observation) -> Answer
     ensures { Observes in_memory table.now m.old o result m.new }
 {
@@ -23,12 +24,14 @@ pub fn observe(table: &Table, m: &mut Memory, o: Observation) -> Answer
 }
 
 // The same of an event, whose name may be any number; and of a clock reading.
+#[tactic(auto, using(crate::proofs::Observing::promise))]
 pub fn note(table: &Table, m: &mut Memory, name: u32, time: u32) -> Answer
     ensures { Observes in_memory table.now m.old (Event name time) result m.new }
 {
     observing::noted(table, m, name, time)
 }
 
+#[tactic(auto, using(crate::proofs::Observing::promise))]
 pub fn tick(table: &Table, m: &mut Memory, time: u32) -> Answer
     ensures { Observes in_memory table.now m.old (Clock time) result m.new }
 {
@@ -36,6 +39,7 @@ pub fn tick(table: &Table, m: &mut Memory, time: u32) -> Answer
 }
 
 // A fresh monitor: it follows the judge that has kept nothing, under every book.
+#[tactic(auto, using(crate::proofs::Agreement::fresh_promise))]
 pub fn fresh() -> Memory
     ensures { Freshes in_memory result }
 {

@@ -9,6 +9,7 @@ ghost use Rattle.records.specs.Records.{observation, record_from};
 use answers::Observation;
 
 // A time, a u32: the four bytes from an offset on, little-endian.
+#[tactic(auto, using(crate::proofs::Bytes::four))]
 fn time_at(log: &[u8], at: usize) -> u32
     requires { at + 4 ≤ length log.now }
     ensures { result ≡ number log.now 4 at }

@@ -79,6 +79,7 @@ fn of_memory(w: &Memory) -> Monitor
 }
 
 // One observation by value: what `monitor::observe` does in memory.
+#[tactic(auto, using(crate::proofs::Values::turns))]
 pub fn step(table: &Table, m: Monitor, o: Observation) -> Answered
     ensures { Observes by_value table.now m o result.answer result.monitor }
 {
@@ -89,6 +90,7 @@ pub fn step(table: &Table, m: Monitor, o: Observation) -> Answered
 }
 
 // A fresh monitor.
+#[tactic(auto, using(crate::proofs::Values::starts))]
 pub fn start() -> Monitor
     ensures { Freshes by_value result }
 {

@@ -1,6 +1,0 @@
--- `monitor::observe` keeps its promise: what it answers is one observation over the lent table, and over that of a sheet's book that is the judge's. Assumes nothing.
-use Rattle.monitor.proofs.Observing.{promise}
-use Rattle.monitor.proofs.observe.Goals as goal
-
-pub returns : goal.returns
-returns c = promise c.observed_by.ensures
