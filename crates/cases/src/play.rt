@@ -51,7 +51,7 @@ impl<'a> Play<'a> {
 fn print_difference(
     rt: &impl Print,
     sheet: u32,
-    number: u16,
+    number: usize,
     said: u64,
     due: u64,
 ) -> io::Result<()> {
@@ -63,7 +63,7 @@ fn print_difference(
 pub fn compare(
     rt: &impl Print,
     sheet: u32,
-    number: u16,
+    number: usize,
     said: u64,
     alike: bool,
     due: u64,

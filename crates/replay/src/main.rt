@@ -55,15 +55,6 @@ impl<'a> Iterator for Cases<'a> {
     }
 }
 
-fn observation(record: &[u8; 5]) -> Observation {
-    let [name, t0, t1, t2, t3] = *record;
-    let time = u32::from_le_bytes([t0, t1, t2, t3]);
-    match name {
-        255 => Observation::Clock(time),
-        _ => Observation::Event(name, time),
-    }
-}
-
 // ---- the calls
 
 // The exported calls, for a caller that keeps a monitor.
@@ -133,7 +124,7 @@ fn replay<C: Calls>(rt: &impl Print, case: &Case) -> io::Result<()> {
     m.taken = case.taken;
     let (records, _) = case.records.as_chunks::<5>();
     for record in records {
-        let answered = C::observed(&b.table, m, observation(record));
+        let answered = C::observed(&b.table, m, records::record_from(record, 0));
         print!(rt; " {}", Told(answered.answer))?;
         m = answered.monitor;
     }

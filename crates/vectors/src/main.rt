@@ -136,7 +136,7 @@ fn is_alike(out: &[u8], records: &[u8]) -> bool {
 fn run_play(
     rt: &impl Print,
     sheet: u32,
-    number: u16,
+    number: usize,
     table: &Table,
     p: &Play,
     tally: &mut Tally,
@@ -152,7 +152,7 @@ fn run_plays(
     rt: &impl Print,
     file: &mut File,
     sheet: u32,
-    total: u16,
+    total: usize,
     table: &Table,
     tally: &mut Tally,
 ) -> io::Result<()> {
@@ -178,7 +178,7 @@ fn run_sheets(rt: &impl Print, file: &mut File, total: u32, tally: &mut Tally) -
             break;
         };
         let b = cases::book_of(sheet);
-        run_plays(rt, file, number, plays, &b.table, tally)?;
+        run_plays(rt, file, number, usize::from(plays), &b.table, tally)?;
     }
     Ok(())
 }
