@@ -32,13 +32,6 @@ module _ (table : List ℕ) (n : ℕ) (before : List ℕ) where
     pub held : (r : ℕ) → member todo r ≡ true → member mask r ≡ true
     pub place : (r f i : ℕ) → r < 16 → f < 16 → i < 8 → get_or names (place_at r f i) 0 ≡ due (not (member todo r)) r f i
 
-  pub placing-start : {todo : ℕ} → todo ≡ mask → length before ≡ place_count → Placing todo before
-  placing-start e l = rw e (record { size = l; held = λ r e. e; place = λ r f i _ _ _. go (member mask r) _ _ _ })
-    where
-      go : (b c : Bool) (x y : ℕ) → y ≡ cond (not b && (b && c)) x y
-      go true c x y = refl
-      go false c x y = refl
-
   module _ {todo left : ℕ} {names : List ℕ} (p : Placing todo names) (low : ℕ) (rule : low < 16) (inside : member todo low ≡ true) (less : Less todo low left) where
     abbrev cell : ℕ
     cell = get_or table (cell_at low n) 0

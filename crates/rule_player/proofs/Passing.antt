@@ -8,7 +8,7 @@ use Prim.Native.Nat.{ℕ, zero, suc, ◌+◌, ◌-◌, ◌*◌, ◌/◌, ◌≤�
 use native.Mathlib.Omega.{arith}
 use lib.Dec.{eqb}
 use lib.ListN.{length, get_or, set, drop, replicate, length-append, length-set}
-use lib.Seq.{get_or-set_other, sets, length-sets}
+use lib.Seq.{get_or-set_other, sets}
 use borrow.Author.Tests.{eqb-true, eqb-false}
 use Rattle.std.specs.Prelude.{Some, None}
 use Rattle.pattern.specs.Meaning.{Range, Fragment}
@@ -44,10 +44,6 @@ others-of (b ∷ bs) (suc k) = others-of bs k
 sets-++ : (a b out : List ℕ) (at : ℕ) → sets out at (a ++ b) ≡ sets (sets out at a) (at + length a) b
 sets-++ [] b out at = let e : at + 0 ≡ at = omega arith in rw e refl
 sets-++ (x ∷ a) b out at = let e : at + suc (length a) ≡ suc at + length a = omega arith in rw e (sets-++ a b (set out at x) (suc at))
-
-put-length : (w : Bool) (out : List ℕ) (at : ℕ) (bytes : List ℕ) → length (put_if w out at bytes) ≡ length out
-put-length true out at bytes = length-sets out at bytes
-put-length false out at bytes = refl
 
 module _ (time : ℕ) where
   pub records-length : (names : List ℕ) → length (records_of time names) ≡ 5 * length names
@@ -121,9 +117,6 @@ module _ (table : List ℕ) (r time : ℕ) (choice : List ℕ) (writes : Bool) (
   }
 
   module _ {n f : ℕ} {x : Ranges} {s : Filling} {out : List ℕ} (p : Passing n f x s out) where
-    pub same-long : length out ≡ length before
-    same-long = ap length p.left ∙ put-length writes before 0 (records_of time p.done)
-
     pub passing-end : fragment_count ≤ f → Passes table r time choice writes before (Some n) out
     passing-end h =
         let z : fragment_count - f ≡ 0 = omega (arith, h) in

@@ -1,24 +1,21 @@
 -- What a table's fragments are: lists by their numbers, and, in the table of a sheet's book, the rule's own round.
 -- Assumes nothing.
 use mathlib.Core.Path.{◌≡◌, refl, sym, ◌∙◌, ap}
-use mathlib.Core.Logic.{◌≢◌}
 use mathlib.Core.Bool.{Bool, true, false, cond, not, ◌&&◌, ◌||◌}
 use Prim.Native.Nat.{ℕ, zero, suc, ◌+◌, ◌-◌, ◌%◌, ◌<◌}
 use native.Mathlib.Nat.{add-zero}
 use native.Mathlib.Omega.{arith}
 use lib.Dec.{ltb}
-use lib.ListN.{length, get_or, set}
-use lib.Seq.{ext_get_or, get_or-set_same, get_or-set_other}
+use lib.ListN.{length, get_or}
+use lib.Seq.{ext_get_or}
 use mathlib.Core.List.{List}
-use Rattle.std.proofs.Common.{below_more}
 use Rattle.std.specs.Prelude.{Some}
 use Rattle.pattern.specs.Meaning.{Range}
 use Rattle.layout.specs.Pages.{no_range}
 use Rattle.tables.specs.Cells.{first_from}
 use Rattle.rule_player.specs.declared.Filling.{Filling}
 use Rattle.rule_player.specs.declared.Ranges.{Ranges}
-use Rattle.rule_player.specs.declared.Step.TheVariants.{Name}
-use Rattle.rule_player.specs.Choice.{count_of, is_new, room_for, enough_for, range_of, goes_on, may_change, may_come, is_short, first_short, towards_the_end, picked, step_by}
+use Rattle.rule_player.specs.Choice.{count_of, room_for, enough_for, range_of, goes_on, may_change, may_come, is_short, first_short, picked, step_by}
 use Rattle.rule_player.specs.Said.{listed, range_by, size_by, fragment_by}
 
 -- ---- a list by its numbers
@@ -40,13 +37,6 @@ module _ {A : Type 0} (g : ℕ → A) where
 pub all-listed : (g : ℕ → ℕ) (l : List ℕ) (n : ℕ) → length l ≡ n → ((k : ℕ) → k < n → get_or l k 0 ≡ g k) → l ≡ listed g 0 n
 all-listed g l n e same = ext_get_or 0 l (listed g 0 n) (e ∙ sym (length-listed g 0 n)) (λ k h. let m : k < n = omega (arith, h, e) in same k m ∙ sym (listed_at g 0 n k m))
 
--- one more of them is set at its place
-pub one-more : (g : ℕ → ℕ) (l : List ℕ) (i x : ℕ) → i < length l → ((k : ℕ) → k < i → get_or l k 0 ≡ g k) → x ≡ g i → (k : ℕ) → k < i + 1 → get_or (set l i x) k 0 ≡ g k
-one-more g l i x h same e =
-    below_more _ _
-    (λ k b. let d : k ≢ i = omega (arith, b) in get_or-set_other l i k x 0 d ∙ same k b)
-    (get_or-set_same l i x 0 h ∙ e)
-
 -- ---- the ranges of a fragment by its cells
 
 module _ (x : Ranges) where
@@ -63,13 +53,10 @@ module _ (x : Ranges) (s : Filling) where
   pub enough-last : (l : ℕ) → l < size_by x → s.last ≡ Some l → enough_for (range_by x l) (count_of s l) ≡ may_change (fragment_by x) s
   enough-last l h e = rw e (ap (λ (r : Range). enough_for r (count_of s l)) (sym (range-is x l h)))
 
-  -- a range's block, that goes on or begins
+  -- a range's block that goes on
   module _ (i : ℕ) (h : i < size_by x) where
     pub comes-on : goes_on (fragment_by x) s i ≡ true → room_for (range_by x i) (count_of s i) ≡ may_come (fragment_by x) s i
     comes-on t = ap (λ (r : Range). room_for r (count_of s i)) (sym (range-is x i h)) ∙ sym (rw t refl)
-
-    pub comes-new : goes_on (fragment_by x) s i ≡ false → (is_new s i && may_change (fragment_by x) s) ≡ may_come (fragment_by x) s i
-    comes-new t = sym (rw t refl)
 
   -- ---- the search for the first range that has not enough
 
@@ -97,14 +84,7 @@ module _ (x : Ranges) (s : Filling) where
       pub searching-more : short_by i ≡ false → Searching (suc i)
       searching-more t = look_at ∙ rw t refl
 
-    pub searching-end : (i : ℕ) → i ≡ size_by x → Searching i → size_by x ≡ first_short (fragment_by x) s every
-    searching-end i e before = let z : size_by x - i ≡ 0 = omega (arith, e) in sym (before ∙ ap (first_from (is_short (fragment_by x) s every) i) z ∙ e)
-
   -- ---- one byte
 
   pub steps-to : (byte n : ℕ) → n ≡ size_by x → step_by (fragment_by x) s byte ≡ picked (fragment_by x) s (byte % (n + 1))
   steps-to byte n e = let z : suc (length (fragment_by x).ranges) ≡ n + 1 = omega (arith, size_is x, e) in ap (λ (m : ℕ). picked (fragment_by x) s (byte % m)) z
-
-  pub picks : (k : ℕ) → 0 < k → picked (fragment_by x) s k ≡ cond (may_come (fragment_by x) s (k - 1)) (Name (k - 1)) (towards_the_end (fragment_by x) s)
-  picks zero h = absurd (omega (arith, h))
-  picks (suc k) h = let e : suc k - 1 ≡ k = omega arith in rw e refl

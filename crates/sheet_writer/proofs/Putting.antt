@@ -1,6 +1,6 @@
 -- Bytes put one after the other: where a first part is written and then a second, both are; and where all parts fit, there is room for each. Assumes nothing.
 use mathlib.Core.Path.{◌≡◌, refl, ◌∙◌, ap, ap₂, subst}
-use mathlib.Core.List.{List, [], ◌++◌}
+use mathlib.Core.List.{List, ◌++◌}
 use Prim.Native.Nat.{ℕ, zero, suc, ◌+◌, ◌<◌}
 use native.Mathlib.Numerals.{add-one}
 use native.Mathlib.Omega.{arith}
@@ -19,9 +19,6 @@ le-long (suc n) x = ap suc (le-long n _)
 
 pub wrote-is : {a b : Writer} {x y : List ℕ} → x ≡ y → Wrote a b x → Wrote a b y
 wrote-is {a} {b} e w = subst (Wrote a b) e w
-
-pub wrote-nothing : (a : Writer) → Wrote a a []
-wrote-nothing a = record { same_buffer = refl; at = omega arith; buffer = refl }
 
 module _ {a b : Writer} {x : List ℕ} (first : Wrote a b x) where
   pub wrote-then : {c : Writer} {y : List ℕ} → Wrote b c y → Wrote a c (x ++ y)

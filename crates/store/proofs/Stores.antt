@@ -1,5 +1,5 @@
 -- Bytes, stored one after the other: what is left to store of a number after some of its bytes, and two runs in a row. Assumes nothing.
-use mathlib.Core.Path.{◌≡◌, refl, sym, ◌∙◌, ap, ap₂}
+use mathlib.Core.Path.{◌≡◌, ◌∙◌, ap}
 use mathlib.Core.List.{List, [], ◌∷◌, ◌++◌}
 use Prim.Native.Nat.{ℕ, suc, ◌+◌, ◌-◌, ◌%◌, ◌/◌, ◌≤◌, ◌<◌}
 use native.Mathlib.Omega.{arith}
@@ -11,12 +11,6 @@ module _ (l : List ℕ) (at n x : ℕ) where
   abbrev pub Storing : List ℕ → ℕ → ℕ → Type 0
   Storing out rest i = (i ≤ n) × (length out ≡ length l) × (sets l at (le n x) ≡ sets out (at + i) (le (n - i) rest))
 
-  pub storing-start : Storing l x 0
-  storing-start =
-      let a : at ≡ at + 0 = omega arith in
-      let m : n ≡ n - 0 = omega arith in
-      (omega arith, refl, ap₂ (λ (i k : ℕ). sets l i (le k x)) a m)
-
   pub storing-more : (out : List ℕ) (rest i : ℕ) → Storing out rest i → i < n → Storing (set out (at + i) (rest % 256)) (rest / 256) (i + 1)
   storing-more out rest i (a, e, p) h =
       let m : n - i ≡ suc (n - (i + 1)) = omega arith in
@@ -25,9 +19,6 @@ module _ (l : List ℕ) (at n x : ℕ) where
         length-set out (at + i) (rest % 256) ∙ e,
         p ∙ ap (λ (k : ℕ). sets out (at + i) (le k rest)) m ∙ ap (λ (k : ℕ). sets (set out (at + i) (rest % 256)) k (le (n - (i + 1)) (rest / 256))) j,
       )
-
-  pub storing-end : (out : List ℕ) (rest i : ℕ) → Storing out rest i → n ≤ i → out ≡ sets l at (le n x)
-  storing-end out rest i (a, e, p) h = let z : n - i ≡ 0 = omega arith in sym (p ∙ ap (λ (k : ℕ). sets out (at + i) (le k rest)) z)
 
 -- a second run of bytes where the first one ends: one run of both
 pub sets-append : (l a b : List ℕ) (at : ℕ) → sets (sets l at a) (at + length a) b ≡ sets l at (a ++ b)

@@ -1,16 +1,7 @@
 -- `places::place` meets its contract: name n goes to its place in each rule that holds it. Assumes nothing.
 use native.Mathlib.Omega.{arith}
-use Rattle.places.proofs.Naming.{placing-start, placing-more, placing-end}
+use Rattle.places.proofs.Naming.{placing-more, placing-end}
 use Rattle.places.proofs.place.Goals as goal
-
-pub loop-todo-init : goal.loop-todo-init
-loop-todo-init c = placing-start _ _ _ c.mask_in-todo.ensures c.requires.1
-
-pub loop-todo-smaller : goal.loop-todo-smaller
-loop-todo-smaller c =
-    let low = c.lowest-r.ensures in
-    let some = c.loop-todo-test.true in
-    (c.rest-todo.ensures _ some low).fewer (low.inside some)
 
 pub loop-todo-preserved : goal.loop-todo-preserved
 loop-todo-preserved c =

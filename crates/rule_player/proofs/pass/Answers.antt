@@ -9,7 +9,7 @@ use Rattle.tables.specs.Words.{round_in}
 use Rattle.tables.specs.Cells.{head_at}
 use Rattle.tables.proofs.Bounds.{round-small}
 use Rattle.rule_player.specs.Said.{ranges_at}
-use Rattle.rule_player.proofs.Passing.{taken_is, passing-start, passing-end, inside, passing-longer, passing-name, passing-leave, same-long}
+use Rattle.rule_player.proofs.Passing.{taken_is, passing-start, passing-end, inside, passing-longer, passing-name, passing-leave}
 use borrow.Author.Rules.{rules}
 use Rattle.rule_player.proofs.pass.Goals as goal
 
@@ -23,12 +23,6 @@ loop-f-init c =
       search rules,
       rw (c.new-turn.ensures.0, c.new-turn.ensures.1) (passing-start s.places.now s.r s.time s.choice.now s.writes s.out.now),
     )
-
-pub overflow_add-n : goal.overflow_add-n
-overflow_add-n c = omega (arith, c.loop-f.invariant.4.few, c.loop-f.invariant)
-
-pub shape_of-out-then-n-room : goal.shape_of-out-then-n-room
-shape_of-out-then-n-room c = same-long _ _ _ _ _ _ c.loop-f.invariant.4
 
 pub returns-then-n-room : goal.returns-then-n-room
 returns-then-n-room c =
@@ -44,12 +38,6 @@ bounds-turn-i c =
     let step = taken_is _ _ _ _ _ _ p c.step_by-step.ensures c.byte_at.ensures c.in-Name.is in
     omega (arith, inside _ _ _ _ _ _ p (omega (arith, c.loop-f-test.true, c.loop-f.invariant.0)) i step)
 
-pub put_record-requires : goal.put_record-requires
-put_record-requires c =
-    let p = c.loop-f.invariant.4 in
-    let here = c.loop-f-test.true in
-    omega (arith, p.few, c.loop-f.invariant.2, same-long _ _ _ _ _ _ p, c.if-n-room.false)
-
 pub take-requires : goal.take-requires
 take-requires c =
     let p = c.loop-f.invariant.4 in
@@ -57,18 +45,6 @@ take-requires c =
     let step = taken_is _ _ _ _ _ _ p c.step_by-step.ensures c.byte_at.ensures c.in-Name.is in
     let within = inside _ _ _ _ _ _ p (omega (arith, c.loop-f-test.true, c.loop-f.invariant.0)) i step in
     (within, omega (arith, p.bound i, p.few, c.loop-f.invariant.2, c.loop-f.invariant.3))
-
-pub overflow_add-n-in-Name : goal.overflow_add-n-in-Name
-overflow_add-n-in-Name c =
-    let p = c.loop-f.invariant.4 in
-    let here = c.loop-f-test.true in
-    omega (arith, p.few, c.loop-f.invariant.2, c.loop-f.invariant.3)
-
-pub loop-f-smaller-in-Name : goal.loop-f-smaller-in-Name
-loop-f-smaller-in-Name c =
-    let p = c.loop-f.invariant.4 in
-    let here = c.loop-f-test.true in
-    omega (arith, p.few, c.loop-f.invariant.2, c.if-n-room.false)
 
 pub loop-f-preserved-in-Name : goal.loop-f-preserved-in-Name
 loop-f-preserved-in-Name c =
@@ -81,13 +57,6 @@ loop-f-preserved-in-Name c =
     let (a, b, d, e, q) = c.loop-f.invariant in
     (a, b, d, e, rw (add-one, c.take.ensures.0, c.take.ensures.1, put) more)
 
-pub new-turn-requires-in-Leave : goal.new-turn-requires-in-Leave
-new-turn-requires-in-Leave c =
-    (c.requires, omega arith)
-
-pub loop-f-smaller : goal.loop-f-smaller
-loop-f-smaller c = omega (arith, c.loop-f-test.true)
-
 pub loop-f-preserved : goal.loop-f-preserved
 loop-f-preserved c =
     let p = c.loop-f.invariant.4 in
@@ -96,9 +65,6 @@ loop-f-preserved c =
     let (a, b, d, e, q) = c.loop-f.invariant in
     let there = passing-leave _ _ _ _ _ _ p (omega (arith, c.loop-f-test.true, a)) step in
     (a, b, d, e, rw (add-one, c.new-turn-in-Leave.ensures.0, c.new-turn-in-Leave.ensures.1) (there (λ h. ap (ranges_at s.places.now s.r) (omega (arith, h, a, b)))))
-
-pub shape_of-out : goal.shape_of-out
-shape_of-out c = same-long _ _ _ _ _ _ c.loop-f.invariant.4
 
 pub returns : goal.returns
 returns c = passing-end _ _ _ _ _ _ c.loop-f.invariant.4 (omega (arith, c.loop-f-test.false, c.loop-f.invariant.0))

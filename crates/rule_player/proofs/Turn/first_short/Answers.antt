@@ -1,8 +1,7 @@
 -- `rule_player::Turn::first_short` meets its contract. The loop's invariant: the search goes on from range i. Assumes nothing.
-use mathlib.Core.Path.{◌∙◌}
 use native.Mathlib.Numerals.{add-one}
 use native.Mathlib.Omega.{arith}
-use Rattle.rule_player.proofs.Said.{searching-start, searching-found, searching-more, searching-end}
+use Rattle.rule_player.proofs.Said.{searching-start, searching-found, searching-more}
 use Rattle.rule_player.proofs.Turn.first_short.Goals as goal
 
 pub loop-i-init : goal.loop-i-init
@@ -17,8 +16,3 @@ pub loop-i-preserved : goal.loop-i-preserved
 loop-i-preserved c =
     let s = c.args in
     rw add-one (searching-more s.self.now.ranges s.self.now.filling s.every c.loop-i.i (omega (arith, c.count-n.ensures)) c.loop-i.invariant (rw (← c.has_enough.ensures) c.if-has_enough-every.false))
-
-pub returns : goal.returns
-returns c =
-    let s = c.args in
-    c.count-n.ensures ∙ searching-end s.self.now.ranges s.self.now.filling s.every c.loop-i.i (omega (arith, c.count-n.ensures)) c.loop-i.invariant

@@ -7,7 +7,7 @@ use Rattle.tables.specs.Cells.{less_in}
 use Rattle.places.specs.Places.{cell_of}
 use Rattle.sheet_writer.specs.Parts.{join_field, range_in, range_part, fragment_part}
 use Rattle.sheet_writer.proofs.Lengths.{ranges-length, fragment-length}
-use Rattle.sheet_writer.proofs.Putting.{wrote-is, wrote-nothing, wrote-then, wrote-long, wrote-part}
+use Rattle.sheet_writer.proofs.Putting.{wrote-is, wrote-then, wrote-long, wrote-part}
 use Rattle.sheet_writer.proofs.Writer.put_fragment.Goals as goal
 
 pub put-requires : goal.put-requires
@@ -18,9 +18,6 @@ put-requires-2 c =
     let s = c.args in
     let first = c.put.ensures in
     omega (arith, c.requires.2, fragment-length s.places.now s.r s.f, first.at, wrote-long first)
-
-pub loop-i-init : goal.loop-i-init
-loop-i-init c = wrote-nothing _
 
 pub put_range-requires : goal.put_range-requires
 put_range-requires c =

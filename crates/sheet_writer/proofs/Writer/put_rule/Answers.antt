@@ -8,14 +8,11 @@ use Rattle.layout.specs.Layout.{le}
 use Rattle.tables.specs.Cells.{head_at}
 use Rattle.sheet_writer.specs.Parts.{fragment_part, fragment_count, rule_part}
 use Rattle.sheet_writer.proofs.Lengths.{fragments-few, rule-length}
-use Rattle.sheet_writer.proofs.Putting.{wrote-is, wrote-nothing, wrote-then, wrote-long, wrote-part, room-part}
+use Rattle.sheet_writer.proofs.Putting.{wrote-is, wrote-then, wrote-long, wrote-part, room-part}
 use Rattle.sheet_writer.proofs.Writer.put_rule.Goals as goal
 
 pub put-requires : goal.put-requires
 put-requires c = let s = c.args in omega (arith, c.requires.1, rule-length s.places.now s.r)
-
-pub loop-f-init : goal.loop-f-init
-loop-f-init c = wrote-nothing _
 
 pub put_fragment-requires : goal.put_fragment-requires
 put_fragment-requires c =

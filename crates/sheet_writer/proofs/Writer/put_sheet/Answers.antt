@@ -3,14 +3,11 @@ use mathlib.Core.Path.{◌≡◌, ap}
 use native.Mathlib.Omega.{arith}
 use Rattle.sheet_writer.specs.Parts.{rule_part, rule_count, header_part, table_bytes}
 use Rattle.sheet_writer.proofs.Lengths.{rules-few, header-length, table-length}
-use Rattle.sheet_writer.proofs.Putting.{wrote-is, wrote-nothing, wrote-then, wrote-long, wrote-part, room-part}
+use Rattle.sheet_writer.proofs.Putting.{wrote-is, wrote-then, wrote-long, wrote-part, room-part}
 use Rattle.sheet_writer.proofs.Writer.put_sheet.Goals as goal
 
 pub put_header-requires : goal.put_header-requires
 put_header-requires c = omega (arith, c.requires, table-length c.args.places.now, header-length c.table-table.result.now)
-
-pub loop-r-init : goal.loop-r-init
-loop-r-init c = wrote-nothing _
 
 pub put_rule-requires : goal.put_rule-requires
 put_rule-requires c =
