@@ -290,6 +290,7 @@ impl<'a> Reader<'a> {
         self.count(MOST_RULES)
     }
 
+    // A rule's kind. It stays a number, as a join does: the rule's word stores it, and the definitions (`by_kind`, `kind_of`, `join_of`) go by it, so an enum would be turned back at once.
     pub fn kind(&mut self, version: u64) -> Result<u64, Refused>
         ensures { Told (Within (today.first_kind version) last_kind) self.old self.new result (a_field 1 (kind_fault today version)) }
     {
