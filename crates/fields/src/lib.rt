@@ -2,8 +2,7 @@
 // reader stands after the field; or a refusal, with document 01's fault and the field's place, at which the reader then still stands.
 #![tactic(auto)]
 
-ghost use Rattle.std.specs.Prelude.{◌≡◌, not, ◌&&◌, ◌+◌, ◌<◌, ◌≤◌, ltb, eqb, length};
-ghost use Rattle.names.specs.Names.{member};
+ghost use Rattle.std.specs.Prelude.{◌≡◌, ◌+◌, ◌<◌, ◌≤◌, ltb, length};
 ghost use Rattle.layout.specs.Layout.{last_name};
 ghost use Rattle.layout.specs.Terms.{today};
 ghost use Rattle.layout.specs.Faults.{outside, most_fault, trigger_fault, name_fault};
