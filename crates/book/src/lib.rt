@@ -170,6 +170,7 @@ fn book_of(pages: &Pages) -> Book
 pub fn translate(s: &[u8]) -> Result<Book, Refused>
     ensures { Translates s.now result }
 {
-    let pages = sheet::read(s)?;
+    let mut pages = Pages::new();
+    sheet::read_into(s, &mut pages)?;
     Ok(book_of(&pages))
 }

@@ -2,8 +2,7 @@
 // reader stands after the field; or a refusal, with document 01's fault and the field's place, at which the reader then still stands.
 #![tactic(auto)]
 
-ghost use Rattle.std.specs.Prelude.{◌≡◌, not, ◌&&◌, ◌+◌, ◌<◌, ◌≤◌, ltb, eqb, length};
-ghost use Rattle.names.specs.Names.{member};
+ghost use Rattle.std.specs.Prelude.{◌≡◌, ◌+◌, ◌<◌, ◌≤◌, ltb, length};
 ghost use Rattle.layout.specs.Layout.{last_name};
 ghost use Rattle.layout.specs.Terms.{today};
 ghost use Rattle.layout.specs.Faults.{outside, most_fault, trigger_fault, name_fault};
@@ -290,6 +289,7 @@ impl<'a> Reader<'a> {
         self.count(MOST_RULES)
     }
 
+    // A rule's kind. It stays a number, as a join does: the rule's word stores it, and the definitions (`by_kind`, `kind_of`, `join_of`) go by it, so an enum would be turned back at once.
     pub fn kind(&mut self, version: u64) -> Result<u64, Refused>
         ensures { Told (Within (today.first_kind version) last_kind) self.old self.new result (a_field 1 (kind_fault today version)) }
     {

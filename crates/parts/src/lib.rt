@@ -2,7 +2,7 @@
 // What `rules` asks, its one caller in `sheet` is proved to give.
 #![tactic(auto)]
 
-ghost use Rattle.std.specs.Prelude.{◌≡◌, ◌+◌, ◌*◌, ◌^◌, ◌<◌, ◌≤◌, replicate};
+ghost use Rattle.std.specs.Prelude.{◌≡◌, ◌+◌, ◌*◌, ◌^◌, ◌<◌, ◌≤◌};
 ghost use Rattle.names.specs.Names.{insert};
 ghost use Rattle.layout.specs.Faults.{by_kind};
 ghost use Rattle.layout.specs.Reading.{range, ranges, fragment, fragments, header, rule, rules};

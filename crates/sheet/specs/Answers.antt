@@ -9,6 +9,7 @@ use Rattle.layout.specs.Pages.{head_table, fragment_table, range_table}
 use Rattle.fields.specs.Faults.{number_of}
 use Rattle.fields.specs.declared.Refused.{Refused}
 use Rattle.sheet.specs.declared.Pages.{Pages}
+use Rattle.sheet.specs.Shown.{no_pages}
 
 -- document 01's values for each case of the answer: "refusal number or 0", and the place; an accepted sheet's are those of its fresh monitor, which is whole
 abbrev pub values_of : {A : Type 0} → Result A Refused → Values
@@ -33,3 +34,8 @@ pages_of S = record {
 pub record Reads (s : List ℕ) (r : Result Pages Refused) : Type 0 where
   pub answers : values_of r ≡ read_values (read_sheet s)
   pub keeps : (S : Sheet) → read_sheet s ≡ accepted S → r ≡ Ok (pages_of S)
+
+-- the same into pages that are given: an accepted sheet's are its own, if they were those before anything is read
+pub record ReadsInto (s : List ℕ) (p₀ p : Pages) (r : Result (Unit {0}) Refused) : Type 0 where
+  pub answers : values_of r ≡ read_values (read_sheet s)
+  pub keeps : p₀ ≡ no_pages → (S : Sheet) → read_sheet s ≡ accepted S → (r ≡ Ok (tt {0})) × (p ≡ pages_of S)

@@ -2,13 +2,16 @@
 -- Assumes nothing.
 use Rattle.std.specs.Prelude.{◌≡◌, length}
 use Rattle.layout.specs.Layout.{Sheet}
-use Rattle.parts.specs.Shown.{RulesShown}
-use Rattle.parts.specs.declared.RuleTables.{RuleTables}
-use Rattle.sheet.specs.declared.Opening.{Opening}
+use Rattle.parts.specs.Shown.{no_rules, RulesShown}
+use Rattle.sheet.specs.declared.Pages.{Pages}
+
+-- the pages before anything is read
+abbrev pub no_pages : Pages
+no_pages = record { version = 0; outputs = 0; count = 0; tables = no_rules }
 
 -- the whole sheet
-pub record SheetShown (t₀ t : RuleTables) (o : Opening) (S : Sheet) : Type 0 where
-  pub version' : o.version ≡ S.version
-  pub outputs' : o.outputs ≡ S.outputs
-  pub count' : o.count ≡ length S.rules
-  pub tables' : RulesShown t₀ t S.rules
+pub record SheetShown (p₀ p : Pages) (S : Sheet) : Type 0 where
+  pub version' : p.version ≡ S.version
+  pub outputs' : p.outputs ≡ S.outputs
+  pub count' : p.count ≡ length S.rules
+  pub tables' : RulesShown p₀.tables p.tables S.rules

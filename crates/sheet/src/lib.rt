@@ -1,10 +1,11 @@
 // Reads a sheet (document 01, "The sheet" and "Where each refusal is found"): its header and its rules, and whether bytes are left over.
 #![tactic(auto)]
 
+ghost use Rattle.std.specs.Prelude.{◌≡◌};
 ghost use Rattle.layout.specs.Reading.{sheet};
 ghost use Rattle.fields.specs.Told.{Told, a_part};
-ghost use Rattle.sheet.specs.Shown.{SheetShown};
-ghost use Rattle.sheet.specs.Answers.{Reads};
+ghost use Rattle.sheet.specs.Shown.{no_pages, SheetShown};
+ghost use Rattle.sheet.specs.Answers.{Reads, ReadsInto};
 
 use fields::{Fault, Reader, Refused};
 use parts::{RuleTables, SheetHeader};
@@ -21,44 +22,51 @@ pub struct Pages {
     pub tables: RuleTables,
 }
 
-// What the sheet's header says: its version, its outputs, and how many rules follow.
-#[derive(Drop)]
-struct Opening {
-    version: u16,
-    outputs: u64,
-    count: u8,
+impl Pages {
+    // Before anything is read.
+    pub fn new() -> Pages
+        ensures { result ≡ no_pages }
+    {
+        Pages {
+            version: 0,
+            outputs: 0,
+            count: 0,
+            tables: RuleTables::new(),
+        }
+    }
 }
 
-// The sheet's header and its rules, these into the tables.
-fn sheet(r: &mut Reader, tables: &mut RuleTables) -> Result<Opening, Refused>
-    ensures { Told (SheetShown tables.old tables.new) r.old r.new result (a_part sheet) }
+// The sheet's header and its rules, into the pages.
+fn sheet(r: &mut Reader, pages: &mut Pages) -> Result<(), Refused>
+    ensures { Told (λ _. SheetShown pages.old pages.new) r.old r.new result (a_part sheet) }
 {
     r.exactly(3, MARK, Fault::NoMark)?;
     let version = r.version()?;
     let outputs = r.field(8)?;
     let count = r.rule_count()?;
+    pages.version = version as u16;
+    pages.outputs = outputs;
+    pages.count = count as u8;
     let header = SheetHeader { version, outputs };
-    parts::rules(r, header, count as usize, tables)?;
-    Ok(Opening {
-        version: version as u16,
-        outputs,
-        count: count as u8,
-    })
+    parts::rules(r, header, count as usize, &mut pages.tables)
 }
 
-// Reads a sheet from any bytes: its pages, or the refusal at the first faulty field. It reads inside the slice only, and always returns.
+// Reads a sheet from any bytes, into pages that are new: the refusal at the first faulty field, if any. It reads inside the slice only, and always returns.
 // The contract says what is answered for all bytes, and so that no byte after the first fault has a say in the answer; that none is loaded is seen in the code, which returns there.
+pub fn read_into(s: &[u8], pages: &mut Pages) -> Result<(), Refused>
+    ensures { ReadsInto s.now pages.old pages.new result }
+{
+    let mut r = Reader::new(s);
+    sheet(&mut r, pages)?;
+    r.end()?;
+    Ok(())
+}
+
+// The same, and the pages come with the answer. A book is made without this, since pages that are handed over by value are copied.
 pub fn read(s: &[u8]) -> Result<Pages, Refused>
     ensures { Reads s.now result }
 {
-    let mut r = Reader::new(s);
-    let mut tables = RuleTables::new();
-    let o = sheet(&mut r, &mut tables)?;
-    r.end()?;
-    Ok(Pages {
-        version: o.version,
-        outputs: o.outputs,
-        count: o.count,
-        tables,
-    })
+    let mut pages = Pages::new();
+    read_into(s, &mut pages)?;
+    Ok(pages)
 }

@@ -4,11 +4,13 @@ use Rattle.std.proofs.lemmas.Result.{err_from_is_err_and}
 use Rattle.book.specs.Books.{book_from}
 use Rattle.book.proofs.translate.Goals as goal
 
-pub returns-in_err-pages : goal.returns-in_err-pages
-returns-in_err-pages c =
+pub returns-in_err-read_into : goal.returns-in_err-read_into
+returns-in_err-read_into c =
     let p = err_from_is_err_and c.from_residual.result c.from_residual.ensures.1 in
-    let reads = c.in_err-pages.ensures in
-    rw (p.1, p.2) (record { answers = reads.answers; keeps = λ S e. let none = reads.keeps S e in cc })
+    let reads = c.in_err-read_into.ensures in
+    rw (p.1, p.2) (record { answers = reads.answers; keeps = λ S e. let none = (reads.keeps c.new-pages.ensures S e).0 in cc })
 
 pub returns : goal.returns
-returns c = record { answers = c.in_ok-pages.ensures.answers; keeps = λ S e. let same = c.in_ok-pages.ensures.keeps S e in ap Ok (c.book_of.ensures ∙ ap book_from (cc)) }
+returns c =
+    let reads = c.in_ok-read_into.ensures in
+    record { answers = reads.answers; keeps = λ S e. ap Ok (c.book_of.ensures ∙ ap book_from (reads.keeps c.new-pages.ensures S e).1) }

@@ -1,79 +1,15 @@
--- `sheet::read` meets its contract: the first fault is told as it was found, then bytes left over, and else the tables are the sheet's. Assumes nothing.
-use Rattle.std.proofs.Common.{◌≡◌, sym, ap, ◌∙◌, List, ℕ, ◌≤◌, ◌<◌, length, Result, Ok, Err, IsErrAnd, arith}
+-- `sheet::read` meets its contract: what is read into new pages is the sheet's. Assumes nothing.
+use Rattle.std.proofs.Common.{ap, Ok}
 use Rattle.std.proofs.lemmas.Result.{err_from_is_err_and}
-use borrow.Author.Tests.{lt-ltb, le-ltb}
-use Rattle.layout.specs.Layout.{Sheet}
-use Rattle.layout.specs.Reading.{sheet, Outcome, accepted, refused, read_sheet_on, read_sheet}
-use Rattle.layout.specs.Pages.{head_table, fragment_table, range_table}
-use Rattle.fields.specs.Faults.{number_of}
-use Rattle.fields.specs.Told.{Told, Ended, a_part}
-use Rattle.fields.specs.declared.Reader.{Reader}
-use Rattle.fields.specs.declared.Refused.{Refused}
-use Rattle.parts.specs.Shown.{no_rules}
-use Rattle.parts.specs.declared.RuleTables.{RuleTables}
-use Rattle.sheet.specs.Shown.{SheetShown}
-use Rattle.sheet.specs.declared.Opening.{Opening}
-use Rattle.sheet.specs.Answers.{read_values, pages_of, Reads}
-use Rattle.sheet.specs.declared.Pages.{Pages}
 use Rattle.sheet.proofs.read.Goals as goal
 
-not-both : {S : Sheet} {k place : ℕ} {o : Outcome} → o ≡ accepted S → o ≡ refused k place → ⊥
-not-both e f = let z : ◌≡◌ {A = ℕ} 0 1 = cc (e, f) in omega arith
-
-same-sheet : {S T : Sheet} {o : Outcome} → o ≡ accepted S → o ≡ accepted T → S ≡ T
-same-sheet e f = cc (e, f)
-
--- tables that were those of no rules, and the header's fields
-made : {t₀ t : RuleTables} {o : Opening} (S : Sheet) → t₀ ≡ no_rules → SheetShown t₀ t o S
-    → ◌≡◌ {A = Pages} (record { version = o.version; outputs = o.outputs; count = o.count; tables = t }) (pages_of S)
-unfolding head_table fragment_table range_table
-made {t₀} {t} {o} S none shown =
-    let w = shown.tables' in
-    let same : ◌≡◌ {A = Pages}
-    (record {
-      version = o.version;
-      outputs = o.outputs;
-      count = o.count;
-      tables = record { heads = t.heads; fragments = t.fragments; ranges = t.ranges };
-    })
-    (pages_of S)
-    = rw (shown.version', shown.outputs', shown.count', w.heads', w.fragments, w.ranges, none) in
-    same
-
-module _ (s : List ℕ) where
-  refuses : (e : Refused) {r : Result Pages Refused} → IsErrAnd r (λ y. y ≡ e) → read_sheet s ≡ refused (number_of e.fault) e.place → Reads s r
-  refuses why {r} err e = let p = err_from_is_err_and r err in rw (p.1, p.2) (record { answers = sym (ap read_values e); keeps = λ S f. absurd (not-both f e) })
-
-  accepts : {pages : Pages} {S : Sheet} → read_sheet s ≡ accepted S → pages ≡ pages_of S → Reads s (Ok pages)
-  accepts e p = record { answers = sym (ap read_values e); keeps = λ T f. ap Ok (p ∙ ap pages_of (same-sheet e f)) }
-
-  -- a reader that began at the first of the bytes
-  module _ {r₀ r₁ : Reader} (begins : (r₀.bytes.now ≡ s) × (r₀.at ≡ 0)) {U : Type 0} {Shows : U → Sheet → Type 0} where
-    stops : {e : Refused} {r : Result Pages Refused} → Told Shows r₀ r₁ (Err e) (a_part sheet) → IsErrAnd r (λ y. y ≡ e) → Reads s r
-    unfolding read_sheet_on
-    stops told err = let e = rw (begins.0, begins.1) at told.says.stops in refuses _ err (rw e)
-
-    leaves : {u : U} {e : Refused} {r : Result Pages Refused} → Told Shows r₀ r₁ (Ok u) (a_part sheet) → Ended r₁ (Err e) → IsErrAnd r (λ y. y ≡ e) → Reads s r
-    unfolding read_sheet_on
-    leaves told (more, is) err =
-        let e = rw (begins.0, begins.1) at told.says.reads in
-        let same : r₁.bytes.now ≡ s = told.same ∙ begins.0 in
-        let left : r₁.at < length s = rw same at more in
-        refuses _ err (rw (e, lt-ltb r₁.at (length s) left, is))
-
-    ends : {u : U} {pages : Pages} → (told : Told Shows r₀ r₁ (Ok u) (a_part sheet)) → Ended r₁ (Ok (tt {0})) → pages ≡ pages_of told.says.value → Reads s (Ok pages)
-    unfolding read_sheet_on
-    ends told all p =
-        let e = rw (begins.0, begins.1) at told.says.reads in
-        let same : r₁.bytes.now ≡ s = told.same ∙ begins.0 in
-        let none : length s ≤ r₁.at = rw same at all in
-        accepts (rw (e, le-ltb r₁.at (length s) none)) p
-
-pub returns-in_err-o : goal.returns-in_err-o
-returns-in_err-o c = stops _ c.new-r.ensures c.in_err-o.ensures c.from_residual.ensures.1
-
-pub returns-in_err-end : goal.returns-in_err-end
-returns-in_err-end c = leaves _ c.new-r.ensures c.in_ok-o.ensures c.in_err-end.ensures c.from_residual-in_err-end.ensures.1
+pub returns-in_err-read_into : goal.returns-in_err-read_into
+returns-in_err-read_into c =
+    let p = err_from_is_err_and c.from_residual.result c.from_residual.ensures.1 in
+    let reads = c.in_err-read_into.ensures in
+    rw (p.1, p.2) (record { answers = reads.answers; keeps = λ S e. let none = (reads.keeps c.new-pages.ensures S e).0 in cc })
 
 pub returns : goal.returns
-returns c = let t = c.in_ok-o.ensures in ends _ c.new-r.ensures t c.in_ok-end.ensures (made t.says.value c.new-tables.ensures t.says.shows)
+returns c =
+    let reads = c.in_ok-read_into.ensures in
+    record { answers = reads.answers; keeps = λ S e. ap Ok (reads.keeps c.new-pages.ensures S e).1 }

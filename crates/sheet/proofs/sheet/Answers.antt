@@ -7,7 +7,7 @@ use Rattle.layout.specs.Reading.{rules}
 use Rattle.layout.proofs.Forms.{several-length}
 use Rattle.layout.proofs.Values.{today-covered}
 use Rattle.layout.proofs.Acceptance.{read-sheet}
-use Rattle.fields.proofs.Telling.{by_same, done, fails, goes_on, then}
+use Rattle.fields.proofs.Telling.{by_same, fails, last, then}
 use Rattle.sheet.proofs.sheet.Goals as goal
 
 rules-length : (s : List ℕ) (version outputs n at : ℕ) {end : ℕ} {rs : List Rule} → read today s (rules version outputs n) at ≡ got rs end → length rs ≡ n
@@ -32,19 +32,8 @@ returns-in_err-count c =
     (then _ c.in_ok-exactly.ensures (then _ c.in_ok-version.ensures (then _ c.in_ok-outputs.ensures
     (fails _ c.in_err-count.ensures c.from_residual-in_err-count.ensures.1))))
 
-pub returns-in_err-rules : goal.returns-in_err-rules
-returns-in_err-rules c =
-    by_same (read-sheet today-covered)
-    (then _ c.in_ok-exactly.ensures (then _ c.in_ok-version.ensures (then _ c.in_ok-outputs.ensures (then _ c.in_ok-count.ensures
-    (fails _ c.in_err-rules.ensures c.from_residual-in_err-rules.ensures.1)))))
-
 pub returns : goal.returns
 returns c =
     by_same (read-sheet today-covered)
     (then _ c.in_ok-exactly.ensures (then _ c.in_ok-version.ensures (then _ c.in_ok-outputs.ensures (then _ c.in_ok-count.ensures
-    (goes_on _ c.in_ok-rules.ensures (λ rs e shown. done (record {
-      version' = refl;
-      outputs' = refl;
-      count' = sym (rules-length _ _ _ _ _ e);
-      tables' = shown;
-    })))))))
+    (last _ (λ _ rs e shown. record { version' = refl; outputs' = refl; count' = sym (rules-length _ _ _ _ _ e); tables' = shown }) c.rules.ensures)))))
