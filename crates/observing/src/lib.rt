@@ -29,7 +29,12 @@ fn admitted(m: &Memory, time: u32) -> Result<u32, Refusal>
     if time < words::latest(m) {
         return Err(Refusal::FallingTime);
     }
-    words::taken(m).checked_add(1).ok_or(Refusal::FullCount)
+    // No `checked_add`: with it an event took one instruction more for each rule.
+    let before = words::taken(m);
+    if before == u32::MAX {
+        return Err(Refusal::FullCount);
+    }
+    Ok(before + 1)
 }
 
 // An event. A name of 64 or more is refused, so that the table has the name; then a time before the latest one, and a full count: "A refused one answers its refusal number alone and
