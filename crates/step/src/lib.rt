@@ -91,16 +91,14 @@ fn takes(cell: u64, st: RuleState, time: u32) -> Stepped
 {
     let i = tables::index_in(cell);
     let count = recogniser::saturating_sum(st.counts[usize::from(i)], 1);
-    let counts = fragment::raised(st.counts, i);
-    let states = fragment::with_state(st.states, i, moved(cell, WAITING, OWN, count));
     let lacking = masks::put(st.lacking, i, errs(cell, NEXT, count));
     let full = masks::put(st.full, i, errs(cell, OWN, count));
     Stepped {
         state: RuleState {
             fragment: tables::fragment_in(cell),
             current: i,
-            states,
-            counts,
+            states: fragment::with_state(st.states, i, moved(cell, WAITING, OWN, count)),
+            counts: fragment::raised(st.counts, i),
             lacking,
             full,
             end: deadline::ended(cell, st.end, time),
