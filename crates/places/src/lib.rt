@@ -33,10 +33,7 @@ fn place(names: &mut [u8; 2048], table: &Table, n: usize)
     requires { (n < 64) × (length names.old ≡ place_count) }
     ensures { Placed table.now n names.old names.new }
 {
-    let mut todo = tables::mask_in(table[n]);
-    while 0 < todo {
-        let r = masks::lowest(todo);
-        todo = masks::rest(todo);
+    for r in masks::each(tables::mask_in(table[n])) {
         let cell = table[tables::CELLS + tables::NAMES * r + n];
         let f = tables::fragment_in(cell) as usize;
         let i = tables::index_in(cell) as usize;
