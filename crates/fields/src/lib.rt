@@ -253,11 +253,18 @@ impl<'a> Reader<'a> {
     }
 
     // A field that must have one value: the mark, and where 0 is due.
-    pub fn exactly(&mut self, n: usize, due: u64, fault: Fault) -> Result<u64, Refused>
+    fn exactly(&mut self, n: usize, due: u64, fault: Fault) -> Result<u64, Refused>
         requires { n ≤ 8 }
         ensures { Told (Within due due) self.old self.new result (a_field n (unlike (number_of fault) due)) }
     {
         self.between(n, due, due, fault)
+    }
+
+    // The mark: three bytes that must have one value.
+    pub fn mark(&mut self, due: u64) -> Result<u64, Refused>
+        ensures { Told (Within due due) self.old self.new result (a_field 3 (unlike 2 due)) }
+    {
+        self.exactly(3, due, Fault::NoMark)
     }
 
     // A count, from 1 on.

@@ -7,7 +7,7 @@ ghost use Rattle.fields.specs.Told.{Told, a_part};
 ghost use Rattle.sheet.specs.Shown.{no_pages, SheetShown};
 ghost use Rattle.sheet.specs.Answers.{Reads, ReadsInto};
 
-use fields::{Fault, Reader, Refused};
+use fields::{Reader, Refused};
 use parts::{RuleTables, SheetHeader};
 
 // The mark "LOB", 4C 4F 42, as one little-endian number.
@@ -40,7 +40,7 @@ impl Pages {
 fn sheet(r: &mut Reader, pages: &mut Pages) -> Result<(), Refused>
     ensures { Told (λ _. SheetShown pages.old pages.new) r.old r.new result (a_part sheet) }
 {
-    r.exactly(3, MARK, Fault::NoMark)?;
+    r.mark(MARK)?;
     let version = r.version()?;
     let outputs = r.field(8)?;
     let count = r.rule_count()?;
