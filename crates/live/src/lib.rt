@@ -105,7 +105,7 @@ pub extern "C" fn guard4_write(book: &Table, buffer: &mut [u8]) -> u64
 
 // ---- playing
 
-// The answer of the player as one number.
+// The answer of the player as one number. A function of its own beside the writer's, since their refusals are two types: a trait for three numbers would be no plainer.
 fn played_word(answer: Result<usize, Refusal>) -> u64
     ensures { result ≡ number_of (playing.answer_of answer) }
 {

@@ -217,7 +217,7 @@ impl Turn {
     }
 }
 
-// A name comes, or the fragment is left.
+// A name comes, or the fragment is left. No `Option`: leaving is a step, and not the absence of one.
 #[derive(Drop)]
 enum Step {
     Name(usize),
@@ -270,6 +270,7 @@ fn pass(
     let mut n = 0usize;
     let mut f = 0usize;
     let mut turn = Turn::new(places, r, 0);
+    // No `for`: a step is a record more or a fragment more, as the choice says.
     while f < fragments {
         let step = turn.step_by(byte_at(choice, n + f));
         match step {

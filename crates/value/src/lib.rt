@@ -25,7 +25,7 @@ pub struct Monitor {
     pub dues: u16,
 }
 
-// A monitor after an observation, and the answer.
+// A monitor after an observation, and the answer. No `Result`: a monitor comes with each answer, also with a refusal.
 #[derive(Drop)]
 pub struct Answered {
     pub monitor: Monitor,
