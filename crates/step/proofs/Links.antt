@@ -27,8 +27,8 @@ use Rattle.deadline.specs.Deadlines.{overdue_of, late_of}
 use Rattle.step.specs.declared.Standing.TheVariants.{Whole}
 use Rattle.step.specs.declared.Stepped.{Stepped}
 use Rattle.step.specs.declared.Seen.TheVariants.{Error}
-use Rattle.step.specs.declared.Seen.{Seen}
-use Rattle.step.specs.Steps.{is_at, inside_of, follows_of, outside_of, seen_of, step_of, cell_in, act_of}
+use Rattle.step.specs.declared.Ready.{Ready}
+use Rattle.step.specs.Steps.{is_at, ready_as, inside_of, follows_of, outside_of, seen_of, step_of, cell_in, act_of}
 use Rattle.step.specs.Shows.{InPlay, waits, counts, closed, Counting, Shows, untouched, freed, begun, running}
 use Rattle.step.proofs.Sound.{Sound}
 use Rattle.step.proofs.Indices.{fresh-length, fresh_at, slot-at}
@@ -110,10 +110,10 @@ module _ {table : List ℕ} {r : ℕ} {rule : Rule} (h : HoldsRule table r rule)
       at-is = rw (ne_eqb (get_or st.states 0 0) 1 first.0, cell-c.fragment, w.fragment)
 
       -- how the event is seen, where it is not late
-      abbrev seen_here : Bool → Seen
+      abbrev seen_here : Bool → Ready
       seen_here same = cond same (inside_of C' st) (outside_of C' st)
 
-      act-is : act_of table r st name time ≡ step_of C' st time (cond late_here Error (seen_here (eqb g S.fragment)))
+      act-is : act_of table r st name time ≡ step_of C' st time (cond late_here (ready_as Error st) (seen_here (eqb g S.fragment)))
       unfolding act_of seen_of
       act-is = rw (ne_eqb (get_or st.states 0 0) 0 first.1, late-here, at-is)
 
@@ -126,8 +126,7 @@ module _ {table : List ℕ} {r : ℕ} {rule : Rule} (h : HoldsRule table r rule)
         gone = not_T (has rule S.fragment name) (λ t. away (sound.apart g S.fragment name hg w.inside here t))
 
         strange : (g ≡ following rule S.fragment → ⊥) → Erred rule after'
-        strange d =
-            foreign-errs rule S ck refl (K.sane sound w) unfree E' gone
+        strange d = foreign-errs rule S ck refl (K.sane sound w) unfree E' gone
             (not_T (has rule (following rule S.fragment) name) (λ t. d (sound.apart g (following rule S.fragment) name hg (follow-inside sound S.fragment w.inside) here t)))
 
       late-errs' : T (after_p rule g && not (in_time rule.kind S.end time)) → Erred rule after'
@@ -173,7 +172,7 @@ module _ {table : List ℕ} {r : ℕ} {rule : Rule} (h : HoldsRule table r rule)
         onward away = rw follows_is (look (eqb (preceding rule g) S.fragment) refl (complete (join_of rule S) (slots_of rule S)) refl)
           where
             look : (a : Bool) → eqb (preceding rule g) S.fragment ≡ a → (b : Bool) → complete (join_of rule S) (slots_of rule S) ≡ b
-                → Linked rule time (step_of C' st time (cond (a && b) (opens_by C' st) Error)) after'
+                → Linked rule time (step_of C' st time (cond (a && b) (opens_by C' st) (ready_as Error st))) after'
             look false qa b qb = erred-linked rule time st after' (strange away (λ z. eqb-false (preceding rule g) S.fragment qa (ap (preceding rule) z ∙ preceding-is sound S.fragment w.inside)))
             look true qa b qb = go b qb
               where
@@ -189,7 +188,7 @@ module _ {table : List ℕ} {r : ℕ} {rule : Rule} (h : HoldsRule table r rule)
                 begins : complete (join_of rule S) (slots_of rule S) ≡ true → after' ≡ begin rule g st.end E'
                 begins q = passing-is rule S ck refl (K.sane sound w) unfree E' (gone away) not_late there (rw q tt) ∙ ap₂ (λ (m x : ℕ). begin rule m x E') f-is (sym w.end)
 
-                go : (b : Bool) → complete (join_of rule S) (slots_of rule S) ≡ b → Linked rule time (step_of C' st time (cond b (opens_by C' st) Error)) after'
+                go : (b : Bool) → complete (join_of rule S) (slots_of rule S) ≡ b → Linked rule time (step_of C' st time (cond b (opens_by C' st) (ready_as Error st))) after'
                 go true q =
                     subst (λ (x : M.RuleState). Linked rule time (step_of C' st time (opens_by C' st)) x) (sym (begins q))
                     (begin-linked sound time hg hi e cell-c st (λ a. ap (λ (x : ℕ). in_time rule.kind x time) w.end ∙ on-time a))
@@ -198,7 +197,7 @@ module _ {table : List ℕ} {r : ℕ} {rule : Rule} (h : HoldsRule table r rule)
       acts-begun : Linked rule time (act_of table r st name time) after'
       acts-begun = subst (λ (x : Stepped). Linked rule time x after') (sym act-is) (look late_here refl (eqb g S.fragment) refl)
         where
-          look : (a : Bool) → late_here ≡ a → (b : Bool) → eqb g S.fragment ≡ b → Linked rule time (step_of C' st time (cond a Error (seen_here b))) after'
+          look : (a : Bool) → late_here ≡ a → (b : Bool) → eqb g S.fragment ≡ b → Linked rule time (step_of C' st time (cond a (ready_as Error st) (seen_here b))) after'
           look true qa b qb = erred-linked rule time st after' (late-errs' (rw qa tt))
           look false qa true qb = stays qa (eqb-true g S.fragment qb)
           look false qa false qb = onward qa (eqb-false g S.fragment qb)
@@ -225,7 +224,7 @@ module _ {table : List ℕ} {r : ℕ} {rule : Rule} (h : HoldsRule table r rule)
     first-late = late_is (cell-of g i name hg hi e) (limit_of table r) st.end time h.limit
 
     first-is : act_of table r st name time
-        ≡ step_of (cell_in table r name) st time (cond (after_p rule g && not (in_time rule.kind st.end time)) Error (cond (eqb g 0) (opens_by (cell_in table r name) st) Error))
+        ≡ step_of (cell_in table r name) st time (cond (after_p rule g && not (in_time rule.kind st.end time)) (ready_as Error st) (cond (eqb g 0) (opens_by (cell_in table r name) st) (ready_as Error st)))
     unfolding act_of seen_of is_at outside_of follows_of
     first-is = rw (ne_eqb (get_or st.states 0 0) 0 (λ z. omega (arith, z, fresh-state)), eq-eqb (get_or st.states 0 0) 1 fresh-state, first-late, (cell-of g i name hg hi e).fragment)
 
@@ -280,18 +279,19 @@ module _ {table : List ℕ} {r : ℕ} {rule : Rule} (h : HoldsRule table r rule)
     acts-fresh : Linked rule time (act_of table r st name time) (step rule F E₀)
     acts-fresh = subst (λ (x : Stepped). Linked rule time x (step rule F E₀)) (sym first-is) (look (eqb g 0) refl)
       where
-        strange-step : (a : Bool) → (g ≡ 0 → ⊥) → Linked rule time (step_of (cell_in table r name) st time (cond a Error Error)) (step rule F E₀)
+        strange-step : (a : Bool) → (g ≡ 0 → ⊥) → Linked rule time (step_of (cell_in table r name) st time (cond a (ready_as Error st) (ready_as Error st))) (step rule F E₀)
         strange-step true d = erred-linked rule time st (step rule F E₀) (strange₀ d)
         strange-step false d = erred-linked rule time st (step rule F E₀) (strange₀ d)
 
         look : (b : Bool) → eqb g 0 ≡ b
-            → Linked rule time (step_of (cell_in table r name) st time (cond (after_p rule g && not (in_time rule.kind st.end time)) Error (cond b (opens_by (cell_in table r name) st) Error))) (step rule F E₀)
+            → Linked rule time (step_of (cell_in table r name) st time (cond (after_p rule g && not (in_time rule.kind st.end time)) (ready_as Error st)
+            (cond b (opens_by (cell_in table r name) st) (ready_as Error st)))) (step rule F E₀)
         look true q =
             let z : g ≡ 0 = eqb-true g 0 q in
             let p : after_p rule g ≡ false = ap (after_p rule) z ∙ first-p in
             rw p
-            (subst (λ (x : M.RuleState). Linked rule time (step_of (cell_in table r name) st time (opens_by (cell_in table r name) st)) x) (sym (begins₀ z))
-            (begin-linked sound time hg hi e (cell-of g i name hg hi e) st (λ a. clash (sym p ∙ a))))
+            (subst (λ (x : M.RuleState). Linked rule time (step_of (cell_in table r name) st time (opens_by (cell_in table r name) st)) x)
+            (sym (begins₀ z)) (begin-linked sound time hg hi e (cell-of g i name hg hi e) st (λ a. clash (sym p ∙ a))))
         look false q = strange-step (after_p rule g && not (in_time rule.kind st.end time)) (eqb-false g 0 q)
 
   -- ---- a rule that is released
@@ -312,8 +312,7 @@ module _ {table : List ℕ} {r : ℕ} {rule : Rule} (h : HoldsRule table r rule)
 
   -- ---- all of them
 
-  pub acts : (st : RuleState) (S : M.RuleState) → Shows rule st S → (name : ℕ) → T (is_in name (names_of rule))
-      → Linked rule time (act_of table r st name time) (step rule S (record { name = name; time = time }))
+  pub acts : (st : RuleState) (S : M.RuleState) → Shows rule st S → (name : ℕ) → T (is_in name (names_of rule)) → Linked rule time (act_of table r st name time) (step rule S (record { name = name; time = time }))
   acts st S (untouched z q) name m =
       let p = sound.named name m in
       subst (λ (x : M.RuleState). Linked rule time (act_of table r st name time) (step rule x (record { name = name; time = time }))) (sym q) (acts-fresh st z p.inside p.held p.is)
@@ -324,11 +323,8 @@ module _ {table : List ℕ} {r : ℕ} {rule : Rule} (h : HoldsRule table r rule)
 
 -- a rule to which nothing has come is at rest
 fresh-rests : {rule : Rule} → Sound rule → at_rest rule (fresh rule) ≡ true
-fresh-rests {rule} sound =
-    let unbegun' : Slot → Bool = λ y. is_unbegun y.state in
-    is_true (at_rest rule (fresh rule))
-    (either_r (released rule (fresh rule)) (any_of unbegun' (slots_of rule (fresh rule)))
-    (any← unbegun' (slots_of rule (fresh rule)) (slot (range_at rule 0 0) unbegun 0) (first_slot sound) tt))
+fresh-rests {rule} sound = is_true (at_rest rule (fresh rule)) (either_r (released rule (fresh rule)) (any_of (λ (y : Slot). is_unbegun y.state) (slots_of rule (fresh rule)))
+    (any← (λ (y : Slot). is_unbegun y.state) (slots_of rule (fresh rule)) (slot (range_at rule 0 0) unbegun 0) (first_slot sound) tt))
 
 -- it has begun, and the end of P is the model's
 runs-end : {rule : Rule} → Sound rule → (st : RuleState) (S : M.RuleState) → Shows rule st S → running rule S ≡ true → st.end ≡ S.end
@@ -337,10 +333,9 @@ runs-end {rule} sound st S (freed rest free) e = let rests : at_rest rule S ≡ 
 runs-end sound st S (begun w) e = w.end
 
 -- so that it is held to the model's deadline
-pub held_to : {table : List ℕ} {r : ℕ} {rule : Rule} → HoldsRule table r rule → Sound rule → (st : RuleState) (S : M.RuleState) → Shows rule st S → running rule S ≡ true
-    → (time : ℕ) → overdue_of (limit_of table r) st.end time ≡ not (in_time rule.kind S.end time)
-held_to {table} {r} {rule} h sound st S w e time =
-    ap₂ (λ (t end : ℕ). ltb (end + t) time) h.limit (runs-end sound st S w e)
+pub held_to : {table : List ℕ} {r : ℕ} {rule : Rule} → HoldsRule table r rule → Sound rule → (st : RuleState) (S : M.RuleState)
+    → Shows rule st S → running rule S ≡ true → (time : ℕ) → overdue_of (limit_of table r) st.end time ≡ not (in_time rule.kind S.end time)
+held_to {table} {r} {rule} h sound st S w e time = ap₂ (λ (t end : ℕ). ltb (end + t) time) h.limit (runs-end sound st S w e)
     ∙ look rule.kind (running-timed (is_timed rule.kind) (not (at_rest rule S) && (not (erred (slots_of rule S)) && pressed rule S)) e)
   where
     running-timed : (a b : Bool) → (a && b) ≡ true → a ≡ true

@@ -68,8 +68,7 @@ module _ {rule : Rule} (sound : Sound rule) {n i name : ℕ} (hn : n < length (r
         there' : (k : ℕ) → (k ≡ i → ⊥) → state_of (get_or (set xs i 3) k 0) ≡ state_of (get_or xs k 0)
         there' k d = ap state_of (get_or-set_other xs i k 3 0 d)
 
-        look : (k : ℕ) → k < 8 → (a : Bool) → ltb k (length (fragment_at rule n).ranges) ≡ a → (c : Bool) → eqb k i ≡ c
-            → state_of (get_or (set xs i 3) k 0) ≡ get_or (moves j (within name) rs ss cs) k idle
+        look : (k : ℕ) → k < 8 → (a : Bool) → ltb k (length (fragment_at rule n).ranges) ≡ a → (c : Bool) → eqb k i ≡ c → state_of (get_or (set xs i 3) k 0) ≡ get_or (moves j (within name) rs ss cs) k idle
         look k g true qa true qc =
             subst (λ (x : ℕ). state_of (get_or (set xs i 3) x 0) ≡ get_or (moves j (within name) rs ss cs) x idle) (sym (eqb-true k i qc))
             (ap state_of (get_or-set_same xs i 3 0 (omega (arith, hi, few, b.eight))) ∙ sym (moves-at j (within name) rs ss cs i long hi ∙ rw own_at b.here))

@@ -75,7 +75,6 @@ module _ (rule : Rule) (w : WellFormed rule) where
     count = λ n h. (formed n h).count;
     apart = λ n m name hn hm t u. (let (i, hi, e) = placed n name t in let (j, hj, e') = placed m name u in (same_place (round_of rule) names n m i j hn hm hi hj (sym e ∙ e')).0);
     small = λ n i hn hi. (let z : (range_at rule n i).name ≤ 63 = (each_at WellFormedRange no_range (fragment_at rule n).ranges i (formed n hn).ranges hi).named in omega (arith, z));
-    named = λ name t. (let (n, i, hn, hi, e) = ordering-place (round_of rule) name (subst (In name) (sym (round-names rule)) (is_in→ name (names_of rule) t)) in
-        record { n = n; i = i; inside = hn; held = hi; is = e });
+    named = λ name t. (let (n, i, hn, hi, e) = ordering-place (round_of rule) name (subst (In name) (sym (round-names rule)) (is_in→ name (names_of rule) t)) in record { n = n; i = i; inside = hn; held = hi; is = e });
     last = λ z. (let o = one_last rule.kind z in omega (arith, long, o));
   }

@@ -18,8 +18,8 @@ use Rattle.rule_state.specs.declared.RuleState.{RuleState}
 use Rattle.tables.specs.Cells.{frees_in, is_timed, frees, Cell}
 use Rattle.fragment.specs.Fragments.{zeros}
 use Rattle.step.specs.declared.Seen.TheVariants.{Releases, Taken}
-use Rattle.step.specs.declared.Seen.{Seen}
-use Rattle.step.specs.Steps.{taken_state, taken_of, opened_of, freed_of, step_of}
+use Rattle.step.specs.declared.Ready.{Ready}
+use Rattle.step.specs.Steps.{taken_state, taken_of, opened_of, ready_as, freed_of, step_of}
 use Rattle.step.specs.Shows.{counts, would_err, Ranges, AloneBut, Lone, Counting, freed}
 use Rattle.step.proofs.Sound.{Sound}
 use Rattle.step.proofs.Indices.{fresh-length, fresh_at, fresh-past}
@@ -30,8 +30,8 @@ use Rattle.step.proofs.Flags.{end_is}
 use Rattle.step.proofs.Settled.{Linked, timely, settled}
 
 -- how the first event of a fragment is seen
-abbrev pub opens_by : ℕ → RuleState → Seen
-opens_by cell st = cond (frees_in cell) Releases (Taken (opened_of cell st))
+abbrev pub opens_by : ℕ → RuleState → Ready
+opens_by cell st = cond (frees_in cell) (ready_as Releases st) (ready_as Taken (opened_of cell st))
 
 module _ {rule : Rule} (sound : Sound rule) (time : ℕ) {n i name : ℕ} (hn : n < length (round_of rule)) (hi : i < length (fragment_at rule n).ranges)
     (e : name ≡ (range_at rule n i).name) {cell : ℕ} (c : Cell rule n i cell) where
@@ -135,7 +135,7 @@ module _ {rule : Rule} (sound : Sound rule) (time : ℕ) {n i name : ℕ} (hn : 
     unfolding freed_of
     begin-linked = rw c.frees (look (frees rule n) refl)
       where
-        look : (b : Bool) → frees rule n ≡ b → Linked rule time (step_of cell st time (cond b Releases (Taken (opened_of cell st)))) B
+        look : (b : Bool) → frees rule n ≡ b → Linked rule time (step_of cell st time (cond b (ready_as Releases st) (ready_as Taken (opened_of cell st)))) B
         look true q = let rests : at_rest rule B ≡ true = rw q in record {
           status = sym (rw rests);
           due = λ z. sym (rw rests (and-false (is_timed rule.kind)));

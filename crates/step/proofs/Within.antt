@@ -23,8 +23,8 @@ use Rattle.rule_state.specs.declared.RuleState.{RuleState}
 use Rattle.tables.specs.Cells.{Cell}
 use Rattle.step.specs.declared.Stepped.{Stepped}
 use Rattle.step.specs.declared.Seen.TheVariants.{Error, Taken}
-use Rattle.step.specs.declared.Seen.{Seen}
-use Rattle.step.specs.Steps.{broken_of, taken_of, closed_of, inside_of, step_of}
+use Rattle.step.specs.declared.Ready.{Ready}
+use Rattle.step.specs.Steps.{broken_of, taken_of, closed_of, ready_as, inside_of, step_of}
 use Rattle.step.specs.Shows.{InPlay, waits, counts, closed, would_err, Ranges, AloneBut, Counting, errs_to}
 use Rattle.step.proofs.Sound.{Sound}
 use Rattle.step.proofs.Flags.{clash}
@@ -204,14 +204,14 @@ module _ {rule : Rule} (sound : Sound rule) (time : ℕ) {st : RuleState} {S : M
   own_errs = errs_to rule S.fragment S.counts st own i
 
   -- in a row, an event of another range than the one that counts
-  abbrev row_seen : Seen
-  row_seen = cond (member st.lacking (st.current % 8)) Error (Taken (closed_of st))
+  abbrev row_seen : Ready
+  row_seen = cond (member st.lacking (st.current % 8)) (ready_as Error st) (ready_as Taken (closed_of st))
 
-  seen-is : inside_of cell st ≡ cond own_errs Error (cond (eqb i st.current || shuffled j) (Taken st) row_seen)
+  seen-is : inside_of cell st ≡ cond own_errs (ready_as Error st) (cond (eqb i st.current || shuffled j) (ready_as Taken st) row_seen)
   unfolding inside_of
   seen-is = rw (c.index, c.shuffled, K.full-bit sound w i hi)
 
-  abbrev Seen' : Seen → Type 0
+  abbrev Seen' : Ready → Type 0
   Seen' x = Goal (step_of cell st time x)
 
   pub inside-linked : Linked rule time (step_of cell st time (inside_of cell st)) (step rule S (record { name = name; time = time }))
@@ -223,15 +223,15 @@ module _ {rule : Rule} (sound : Sound rule) (time : ℕ) {st : RuleState} {S : M
       row : own_errs ≡ false → shuffled j ≡ false → (i ≡ st.current → ⊥) → Seen' row_seen
       row q p d = rw (reduced p) (go (has_enough (range_at rule S.fragment st.current) (count st.current)) refl)
         where
-          go : (b : Bool) → has_enough (range_at rule S.fragment st.current) (count st.current) ≡ b → Seen' (cond (member st.lacking st.current) Error (Taken (closed_of st)))
+          go : (b : Bool) → has_enough (range_at rule S.fragment st.current) (count st.current) ≡ b → Seen' (cond (member st.lacking st.current) (ready_as Error st) (ready_as Taken (closed_of st)))
           go true z = rw (lacks-is q p d true z) (closes q p d z)
           go false z = rw (lacks-is q p d false z) (lacks q p d z)
 
-      look : (b : Bool) → own_errs ≡ b → Seen' (cond b Error (cond (eqb i st.current || shuffled j) (Taken st) row_seen))
+      look : (b : Bool) → own_errs ≡ b → Seen' (cond b (ready_as Error st) (cond (eqb i st.current || shuffled j) (ready_as Taken st) row_seen))
       look true q = breaks (errs i hi (rw (own_at sound w.inside hi e, q) tt))
       look false q = go (eqb i st.current) refl (shuffled j) refl
         where
-          go : (a : Bool) → eqb i st.current ≡ a → (b : Bool) → shuffled j ≡ b → Seen' (cond (a || b) (Taken st) row_seen)
+          go : (a : Bool) → eqb i st.current ≡ a → (b : Bool) → shuffled j ≡ b → Seen' (cond (a || b) (ready_as Taken st) row_seen)
           go true qa b qb = stays q (λ p. eqb-true i st.current qa)
           go false qa true qb = stays q (λ p. clash (sym p ∙ qb))
           go false qa false qb = row q qb (eqb-false i st.current qa)

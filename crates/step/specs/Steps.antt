@@ -15,6 +15,7 @@ use Rattle.step.specs.declared.Standing.TheVariants.{Whole, Open, Due, Broken}
 use Rattle.step.specs.declared.Stepped.{Stepped}
 use Rattle.step.specs.declared.Seen.{Seen}
 use Rattle.step.specs.declared.Seen.TheVariants.{Error, Releases, Taken}
+use Rattle.step.specs.declared.Ready.{Ready}
 
 -- an error: the state is not looked at any more
 abbrev pub broken_of : RuleState → Stepped
@@ -96,32 +97,38 @@ closed_of st = record {
 unfoldable pub is_at : ℕ → RuleState → Bool
 is_at cell st = not (eqb (get_or st.states 0 0) 1) && eqb (fragment_in cell) st.fragment
 
+abbrev pub ready_as : Seen → RuleState → Ready
+ready_as seen st = record { seen = seen; state = st }
+
 -- an event of the fragment at which the rule stands: an error to its own range if that is full, and to the one that counts if that lacks and blocks stand in a row
-unfoldable pub inside_of : ℕ → RuleState → Seen
+unfoldable pub inside_of : ℕ → RuleState → Ready
 inside_of cell st =
-    cond (member st.full (index_in cell)) Error
-    (cond (eqb (index_in cell) st.current || shuffled_in cell) (Taken st)
-    (cond (member st.lacking (st.current % 8)) Error (Taken (closed_of st))))
+    cond (member st.full (index_in cell)) (ready_as Error st)
+    (cond (eqb (index_in cell) st.current || shuffled_in cell) (ready_as Taken st)
+    (cond (member st.lacking (st.current % 8)) (ready_as Error st) (ready_as Taken (closed_of st))))
 
 -- an event that is not of it may only be the first of the fragment that follows; where nothing has come, of the first
 unfoldable pub follows_of : ℕ → RuleState → Bool
 follows_of cell st = cond (eqb (get_or st.states 0 0) 1) (eqb (fragment_in cell) 0) (eqb (before_in cell) st.fragment && eqb st.lacking 0)
 
-unfoldable pub outside_of : ℕ → RuleState → Seen
-outside_of cell st = cond (follows_of cell st) (cond (frees_in cell) Releases (Taken (opened_of cell st))) Error
+unfoldable pub outside_of : ℕ → RuleState → Ready
+outside_of cell st = cond (follows_of cell st) (cond (frees_in cell) (ready_as Releases st) (ready_as Taken (opened_of cell st))) (ready_as Error st)
 
-unfoldable pub seen_of : ℕ → ℕ → RuleState → ℕ → Seen
-seen_of cell limit st now = cond (late_of cell limit st.end now) Error (cond (is_at cell st) (inside_of cell st) (outside_of cell st))
+unfoldable pub seen_of : ℕ → ℕ → RuleState → ℕ → Ready
+seen_of cell limit st now = cond (late_of cell limit st.end now) (ready_as Error st) (cond (is_at cell st) (inside_of cell st) (outside_of cell st))
 
 -- the trigger of kind 0 has come: the rule is released
 unfoldable pub freed_of : ℕ → RuleState → Stepped
 freed_of cell st = record { state = record { fragment = fragment_in cell; current = 0; states = zeros; counts = zeros; lacking = 0; full = 0; end = st.end }; standing = Whole }
 
 -- the rule after an event that is seen so
-abbrev pub step_of : ℕ → RuleState → ℕ → Seen → Stepped
-step_of cell st now Error = broken_of st
-step_of cell st now Releases = freed_of cell st
-step_of cell st now (Taken before) = taken_of cell before now
+abbrev pub step_by : ℕ → RuleState → ℕ → RuleState → Seen → Stepped
+step_by cell st now before Error = broken_of st
+step_by cell st now before Releases = freed_of cell st
+step_by cell st now before Taken = taken_of cell before now
+
+abbrev pub step_of : ℕ → RuleState → ℕ → Ready → Stepped
+step_of cell st now x = step_by cell st now x.state x.seen
 
 abbrev pub cell_in : List ℕ → ℕ → ℕ → ℕ
 cell_in table r name = get_or table (cell_at r (name % 64)) 0

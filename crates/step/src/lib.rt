@@ -2,11 +2,10 @@
 // One path serves the four joins, and no loop goes over the ranges. Two sets say what the table of moves says of every range: `lacking`, those to which *next* would be an error, and `full`,
 // those to which *own* would be one. So an event looks up one cell, its own name's, and changes two ranges at most: the one that it names, and, where blocks stand in a row, the one that
 // counted. A name and a rule's number are reduced by a remainder, so that nothing is asked of them, of the table or of the state.
-// A cell and a state go side by side, and in no struct of both: it would be taken apart and made anew wherever the state changes.
 #![tactic(auto)]
 
 ghost use Rattle.std.specs.Prelude.{◌≡◌, ◌%◌};
-ghost use Rattle.step.specs.Steps.{broken_of, moved_by, errs_of, spent_of, standing_of, taken_of, opened_of, closed_of, is_at, inside_of, follows_of, outside_of, seen_of, freed_of, cell_in, act_of};
+ghost use Rattle.step.specs.Steps.{broken_of, moved_by, errs_of, spent_of, standing_of, taken_of, opened_of, closed_of, is_at, ready_as, inside_of, follows_of, outside_of, seen_of, freed_of, cell_in, act_of};
 
 use recogniser::{ALL, COUNTING, ERROR, IDLE, NEXT, OWN, SIBLING, UNBEGUN, WAITING};
 use rule_state::RuleState;
@@ -91,14 +90,16 @@ fn takes(cell: u64, st: RuleState, time: u32) -> Stepped
 {
     let i = tables::index_in(cell);
     let count = recogniser::saturating_sum(st.counts[usize::from(i)], 1);
+    let counts = fragment::raised(st.counts, i);
+    let states = fragment::with_state(st.states, i, moved(cell, WAITING, OWN, count));
     let lacking = masks::put(st.lacking, i, errs(cell, NEXT, count));
     let full = masks::put(st.full, i, errs(cell, OWN, count));
     Stepped {
         state: RuleState {
             fragment: tables::fragment_in(cell),
             current: i,
-            states: fragment::with_state(st.states, i, moved(cell, WAITING, OWN, count)),
-            counts: fragment::raised(st.counts, i),
+            states,
+            counts,
             lacking,
             full,
             end: deadline::ended(cell, st.end, time),
@@ -153,30 +154,42 @@ fn is_at(cell: u64, st: RuleState) -> bool
 }
 
 // What an event is to the ranges of a rule: an error, the trigger that releases it, or one that its own range takes, in this state, where every other range stands as the event leaves it.
-#[derive(Clone, Copy)]
+#[derive(Clone, Copy, PartialEq, Eq)]
 enum Seen {
     Error,
     Releases,
-    Taken(RuleState),
+    Taken,
+}
+
+// No enum that has the state in it: with one, an event of a live session takes up to three instructions in a hundred more, and two rows of docs/PERFORMANCE.md go above their bar of 1.2.
+#[derive(Clone, Copy)]
+struct Ready {
+    pub seen: Seen,
+    pub state: RuleState,
+}
+
+fn ready_as(seen: Seen, st: RuleState) -> Ready
+    ensures { result ≡ ready_as seen st }
+{
+    Ready { seen, state: st }
 }
 
 // An event of the fragment at which the rule stands. It is an error to its own range if that is full, and to the one that counts if that lacks and blocks stand in a row. An event of the
 // range that counts, and one of a shuffled fragment, leave every other range as it is.
-#[tactic(auto, unfolding(crate::specs::Steps::inside_of))]
-fn inside(cell: u64, st: RuleState) -> Seen
+fn inside(cell: u64, st: RuleState) -> Ready
     ensures { result ≡ inside_of cell st }
 {
     let i = tables::index_in(cell);
     if masks::holds(st.full, i) {
-        return Seen::Error;
+        return ready_as(Seen::Error, st);
     }
     if (i == st.current) | tables::is_shuffled(cell) {
-        return Seen::Taken(st);
+        return ready_as(Seen::Taken, st);
     }
     if masks::holds(st.lacking, st.current) {
-        return Seen::Error;
+        return ready_as(Seen::Error, st);
     }
-    Seen::Taken(closed(st))
+    ready_as(Seen::Taken, closed(st))
 }
 
 // An event that is not of it may only be the first of the fragment that follows: "An event seen as *next* by every range of the fragment, without error, is also the first event of the
@@ -191,26 +204,24 @@ fn follows(cell: u64, st: RuleState) -> bool
     tables::before_in(cell) == st.fragment && st.lacking == 0
 }
 
-#[tactic(auto, unfolding(crate::specs::Steps::outside_of))]
-fn outside(cell: u64, st: RuleState) -> Seen
+fn outside(cell: u64, st: RuleState) -> Ready
     ensures { result ≡ outside_of cell st }
 {
     if !follows(cell, st) {
-        return Seen::Error;
+        return ready_as(Seen::Error, st);
     }
     if tables::frees(cell) {
-        return Seen::Releases;
+        return ready_as(Seen::Releases, st);
     }
-    Seen::Taken(opened(cell, st))
+    ready_as(Seen::Taken, opened(cell, st))
 }
 
 // An event on one of the rule's names. Where nothing has come, no event is late that is no error: the rule's first fragment is of P.
-#[tactic(auto, unfolding(crate::specs::Steps::seen_of))]
-fn seen_at(cell: u64, limit: u32, st: RuleState, time: u32) -> Seen
+fn seen_at(cell: u64, limit: u32, st: RuleState, time: u32) -> Ready
     ensures { result ≡ seen_of cell limit st time }
 {
     if deadline::late(cell, limit, st.end, time) {
-        return Seen::Error;
+        return ready_as(Seen::Error, st);
     }
     if is_at(cell, st) {
         return inside(cell, st);
@@ -242,7 +253,6 @@ fn cell_at(table: &Table, rule: usize, name: u8) -> u64
 }
 
 // An event on one of rule r's names. The first range of a fragment that has begun is neither idle nor not begun: it tells a rule at rest.
-#[tactic(auto, unfolding(crate::specs::Steps::act_of))]
 pub fn act(table: &Table, r: usize, st: RuleState, name: u8, time: u32) -> Stepped
     ensures { result ≡ act_of table.now (r % 16) st name time }
 {
@@ -254,9 +264,10 @@ pub fn act(table: &Table, r: usize, st: RuleState, name: u8, time: u32) -> Stepp
     }
     let cell = cell_at(table, r, name);
     let limit = tables::time(table[tables::HEADS + r % 16]);
-    match seen_at(cell, limit, st, time) {
+    let x = seen_at(cell, limit, st, time);
+    match x.seen {
         Seen::Error => broken(st),
         Seen::Releases => freed(cell, st),
-        Seen::Taken(before) => takes(cell, before, time),
+        Seen::Taken => takes(cell, x.state, time),
     }
 }
