@@ -79,9 +79,10 @@ pub write-then-read : (s : List ℕ) → Bytes s → (t : Result Book Refused) �
     → (b : Book) × (t ≡ Ok b) × ((before : List ℕ) (r : Result ℕ TooShort) (after : List ℕ) → Writes b.table before r after → WritesBack s b before r after)
 write-then-read s bytes t translates S is =
     let (b, e, looks) = translated s t bytes translates S is in
-    let accepts : Accepts today s S = accepted-is-encoded s bytes is in
-    (
-      b, e, λ before r after writes.
+    let accepts : Accepts today s S = accepted-is-encoded s bytes is in (
+      b,
+      e,
+      λ before r after writes.
           let same : length s ≤ length before → take (length s) after ≡ s = same_bytes writes s S b accepts looks refl in
           record {
             own = long writes s S b accepts looks refl;

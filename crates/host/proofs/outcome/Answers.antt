@@ -20,4 +20,4 @@ pub returns-in-Err : goal.returns-in-Err
 returns-in-Err c =
     let sheet = c.args.sheet.now in
     sheet-refused sheet (bytes_of sheet (λ i. (c.type_inv.sheet i).fits)) c.args.log.now c.args.budget c.turned_away.result _ c.in-Err.ensures
-        (c.turned_away.ensures ∙ ap (λ (n : ℕ). turned_away n c.in-Err.refused.place) c.number.ensures)
+    (c.turned_away.ensures ∙ ap (λ (n : ℕ). turned_away n c.in-Err.refused.place) c.number.ensures)
