@@ -1,19 +1,17 @@
 -- Demand 3 for a session: `session-agreement`, the law of every form of a monitor at the one that is changed in place; and opening.
 -- Assumes nothing.
-use mathlib.Core.Path.{◌≡◌, refl, sym, ◌∙◌, ap, subst}
+use mathlib.Core.Path.{◌≡◌, ◌∙◌, ap, subst}
 use mathlib.Core.List.{List}
 use Prim.Native.Nat.{ℕ}
 use Rattle.pattern.specs.Values.{verdict_values}
 use Rattle.layout.specs.Layout.{Sheet, WellFormedSheet, Bytes}
-use Rattle.layout.specs.Reading.{Outcome, accepted, refused, read_sheet}
+use Rattle.layout.specs.Reading.{Outcome, accepted, read_sheet}
 use Rattle.layout.proofs.Acceptance.{accepted-is-encoded}
-use Rattle.std.specs.Prelude.{Result, Ok, Err, ⊤}
+use Rattle.std.specs.Prelude.{Result, ⊤}
 use Rattle.fields.specs.declared.Refused.{Refused}
-use Rattle.sheet.proofs.Cases.{AnswerOf}
-use Rattle.book.specs.Books.{Translates, book_of}
+use Rattle.book.specs.Books.{book_of}
 use Rattle.book.specs.declared.Book.{Book}
 use Rattle.book.proofs.Lookups.{looks}
-use Rattle.book.proofs.Translated.{answered}
 use Rattle.monitor.specs.Promise.{Freshes, CodeAgreement}
 use Rattle.monitor.proofs.Agreement.{agrees_from}
 use Rattle.value.specs.Value.{numbers_of, by_value}
