@@ -2,7 +2,6 @@
 // is due. A sheet in the input is a byte (0: the sheet alone; else every prefix of it), its length (u16, little-endian) and its bytes.
 #![tactic(auto)]
 
-use input::read_full;
 use std::io;
 
 fn tell(rt: &impl Print, sheet: &[u8]) -> io::Result<()> {
@@ -43,6 +42,5 @@ fn tell_all(rt: &impl Print, input: &[u8]) -> io::Result<()> {
 
 fn main(rt: HostRuntime) -> io::Result<()> {
     let mut buffer = [0u8; 65536];
-    let n = read_full(&mut rt.reader(), &mut buffer);
-    tell_all(&rt, &buffer[..n])
+    tell_all(&rt, input::read_slice(&mut rt.reader(), &mut buffer))
 }
