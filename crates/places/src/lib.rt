@@ -10,10 +10,11 @@ use std::marker::Model;
 use tables::Table;
 
 // A table with the names by their places: range i of fragment f of rule r stands at 128 r + 8 f + i. 64 where no name stands: an `Option<u8>` takes two bytes of the fixed memory for each.
+// The names are lent: a struct that is made of an array by value is a copy of it.
 #[derive(Drop)]
 pub struct Places<'a> {
     table: &'a Table,
-    names: [u8; 2048],
+    names: &'a [u8; 2048],
 }
 
 // It is seen as its table. What it keeps is that each place has its name.
@@ -25,7 +26,7 @@ impl<'a> Model for Places<'a> {
 
     ghost view = { λ p. p.table.now };
 
-    ghost invariant = { λ p. Named p.table.now p.names };
+    ghost invariant = { λ p. Named p.table.now p.names.now };
 }
 
 // Puts name n at its place in each rule that holds it.
@@ -42,13 +43,13 @@ fn place(names: &mut [u8; 2048], table: &Table, n: usize)
 }
 
 impl<'a> Places<'a> {
-    // From the last name to the first, so that the lowest of those that stand at one place is the one that stays.
-    pub fn new(table: &'a Table) -> Self
+    // Whatever stands in the room for the names. From the last name to the first, so that the lowest of those that stand at one place is the one that stays.
+    pub fn new(table: &'a Table, names: &'a mut [u8; 2048]) -> Self
         ensures { result ≡ table.now }
     {
-        let mut names = [64u8; 2048];
+        *names = [64; 2048];
         for n in (0..tables::NAMES).rev() {
-            place(&mut names, table, n);
+            place(names, table, n);
         }
         Places { table, names }
     }

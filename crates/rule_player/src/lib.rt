@@ -325,7 +325,8 @@ pub fn play(
         return Err(Refusal::NoRule);
     }
     let r = rule as usize;
-    let places = Places::new(table);
+    let mut names = [0; 2048];
+    let places = Places::new(table, &mut names);
     let Some(n) = pass(&places, r, time, choice, out, false) else {
         return Err(Refusal::TooLong);
     };

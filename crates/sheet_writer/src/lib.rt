@@ -189,7 +189,8 @@ pub struct TooShort;
 pub fn write(table: &Table, buffer: &mut [u8]) -> Result<usize, TooShort>
     ensures { Writes table.now buffer.old result buffer.new }
 {
-    let places = Places::new(table);
+    let mut names = [0; 2048];
+    let places = Places::new(table, &mut names);
     let bytes = size(&places);
     if buffer.len() < bytes {
         return Err(TooShort);
