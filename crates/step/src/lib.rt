@@ -89,11 +89,15 @@ fn takes(cell: u64, st: RuleState, time: u32) -> Stepped
     ensures { result ≡ taken_of cell st time }
 {
     let i = tables::index_in(cell);
-    let count = recogniser::saturating_sum(st.counts[usize::from(i)], 1);
-    let counts = fragment::raised(st.counts, i);
-    let states = fragment::with_state(st.states, i, moved(cell, WAITING, OWN, count));
+    // In this order, with each array taken out first, a record of a log takes fewest instructions.
+    let was = st.counts;
+    let count = recogniser::saturating_sum(was[usize::from(i)], 1);
+    let counts = fragment::raised(was, i);
+    let before = st.states;
+    let states = fragment::with_state(before, i, moved(cell, WAITING, OWN, count));
     let lacking = masks::put(st.lacking, i, errs(cell, NEXT, count));
     let full = masks::put(st.full, i, errs(cell, OWN, count));
+    let standing = stands(cell, lacking, full);
     Stepped {
         state: RuleState {
             fragment: tables::fragment_in(cell),
@@ -104,7 +108,7 @@ fn takes(cell: u64, st: RuleState, time: u32) -> Stepped
             full,
             end: deadline::ended(cell, st.end, time),
         },
-        standing: stands(cell, lacking, full),
+        standing,
     }
 }
 

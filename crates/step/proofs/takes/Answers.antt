@@ -10,7 +10,7 @@ returns c =
     rw (
       c.ended.ensures,
       c.fragment_in.ensures,
-      c.stands.ensures,
+      c.stands-standing.ensures,
       put-of (omega arith) c.put-full.ensures,
       c.errs-2.ensures,
       put-of (omega arith) c.put-lacking.ensures,
