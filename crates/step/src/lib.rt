@@ -89,26 +89,26 @@ fn takes(cell: u64, st: RuleState, time: u32) -> Stepped
     ensures { result ≡ taken_of cell st time }
 {
     let i = tables::index_in(cell);
-    // In this order, with each array taken out first, a record of a log takes fewest instructions.
+    // Counts and states come first, each array taken out: so a record of a log takes fewest instructions.
     let was = st.counts;
-    let count = recogniser::saturating_sum(was[usize::from(i)], 1);
+    let count = recogniser::saturating_sum(was[i as usize], 1);
     let counts = fragment::raised(was, i);
     let before = st.states;
     let states = fragment::with_state(before, i, moved(cell, WAITING, OWN, count));
     let lacking = masks::put(st.lacking, i, errs(cell, NEXT, count));
     let full = masks::put(st.full, i, errs(cell, OWN, count));
-    let standing = stands(cell, lacking, full);
+    let k = stands(cell, lacking, full);
     Stepped {
         state: RuleState {
             fragment: tables::fragment_in(cell),
             current: i,
-            states,
-            counts,
-            lacking,
-            full,
+            states: states,
+            counts: counts,
+            lacking: lacking,
+            full: full,
             end: deadline::ended(cell, st.end, time),
         },
-        standing,
+        standing: k,
     }
 }
 
@@ -158,7 +158,7 @@ fn is_at(cell: u64, st: RuleState) -> bool
 }
 
 // What an event is to the ranges of a rule: an error, the trigger that releases it, or one that its own range takes, in this state, where every other range stands as the event leaves it.
-#[derive(Clone, Copy, PartialEq, Eq)]
+#[derive(Drop)]
 enum Seen {
     Error,
     Releases,
@@ -166,7 +166,7 @@ enum Seen {
 }
 
 // No enum that has the state in it: with one, an event of a live session takes up to three instructions in a hundred more, and two rows of docs/PERFORMANCE.md go above their bar of 1.2.
-#[derive(Clone, Copy)]
+#[derive(Drop)]
 struct Ready {
     pub seen: Seen,
     pub state: RuleState,
@@ -175,7 +175,10 @@ struct Ready {
 fn ready_as(seen: Seen, st: RuleState) -> Ready
     ensures { result ≡ ready_as seen st }
 {
-    Ready { seen, state: st }
+    Ready {
+        seen: seen,
+        state: st,
+    }
 }
 
 // An event of the fragment at which the rule stands. It is an error to its own range if that is full, and to the one that counts if that lacks and blocks stand in a row. An event of the
@@ -260,7 +263,8 @@ fn cell_at(table: &Table, rule: usize, name: u8) -> u64
 pub fn act(table: &Table, r: usize, st: RuleState, name: u8, time: u32) -> Stepped
     ensures { result ≡ act_of table.now (r % 16) st name time }
 {
-    if st.states[0] == IDLE {
+    let states = st.states;
+    if states[0] == IDLE {
         return Stepped {
             state: st,
             standing: Standing::Whole,
@@ -269,9 +273,11 @@ pub fn act(table: &Table, r: usize, st: RuleState, name: u8, time: u32) -> Stepp
     let cell = cell_at(table, r, name);
     let limit = tables::time(table[tables::HEADS + r % 16]);
     let x = seen_at(cell, limit, st, time);
-    match x.seen {
+    let before = x.state;
+    let how = x.seen;
+    match how {
         Seen::Error => broken(st),
         Seen::Releases => freed(cell, st),
-        Seen::Taken => takes(cell, x.state, time),
+        Seen::Taken => takes(cell, before, time),
     }
 }

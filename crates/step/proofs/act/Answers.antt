@@ -4,16 +4,16 @@ use borrow.Author.Tests.{eq-eqb, ne_eqb}
 use Rattle.step.specs.Steps.{act_of}
 use Rattle.step.proofs.act.Goals as goal
 
-pub returns-then-st-eq-IDLE : goal.returns-then-st-eq-IDLE
+pub returns-then-states-eq-IDLE : goal.returns-then-states-eq-IDLE
 unfolding act_of
-returns-then-st-eq-IDLE c = rw (eq-eqb _ _ c.if-st-eq-IDLE.true)
+returns-then-states-eq-IDLE c = rw (eq-eqb _ _ c.if-states-eq-IDLE.true)
 
 pub returns-in-Error : goal.returns-in-Error
 unfolding act_of
 returns-in-Error c =
     c.broken.ensures
     ∙ rw (
-      ne_eqb _ _ c.if-st-eq-IDLE.false,
+      ne_eqb _ _ c.if-states-eq-IDLE.false,
       ← c.cell_at-cell.ensures,
       ← c.time-limit.ensures,
       ← c.seen_at-x.ensures,
@@ -25,7 +25,7 @@ unfolding act_of
 returns-in-Releases c =
     c.freed.ensures
     ∙ rw (
-      ne_eqb _ _ c.if-st-eq-IDLE.false,
+      ne_eqb _ _ c.if-states-eq-IDLE.false,
       ← c.cell_at-cell.ensures,
       ← c.time-limit.ensures,
       ← c.seen_at-x.ensures,
@@ -37,7 +37,7 @@ unfolding act_of
 returns-in-Taken c =
     c.takes.ensures
     ∙ rw (
-      ne_eqb _ _ c.if-st-eq-IDLE.false,
+      ne_eqb _ _ c.if-states-eq-IDLE.false,
       ← c.cell_at-cell.ensures,
       ← c.time-limit.ensures,
       ← c.seen_at-x.ensures,

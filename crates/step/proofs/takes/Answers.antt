@@ -10,7 +10,7 @@ returns c =
     rw (
       c.ended.ensures,
       c.fragment_in.ensures,
-      c.stands-standing.ensures,
+      c.stands-k.ensures,
       put-of (omega arith) c.put-full.ensures,
       c.errs-2.ensures,
       put-of (omega arith) c.put-lacking.ensures,
@@ -19,7 +19,6 @@ returns c =
       c.moved.ensures,
       c.raised-counts.ensures,
       c.saturating_sum-count.ensures,
-      c.from.ensures,
       index_of _ c.index_in-i.ensures,
       c.index_in-i.ensures,
     )
