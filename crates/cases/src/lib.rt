@@ -14,7 +14,7 @@ ghost use Rattle.book.specs.Books.{book_of};
 
 use answer::Answer;
 use book::Book;
-use fields::Fault;
+use fields::{Fault, Refused};
 use read::{read_array, read_part, read_u32};
 use std::io;
 use std::io::Read;
@@ -55,19 +55,27 @@ impl<'a> Case<'a> {
     }
 }
 
-// The book that a case or a play is run with. A refused sheet has none: bytes that are left over after its last rule are passed over, and of any other no rule is kept.
+// The book that a case or a play is run with. A refused sheet has none: `book_of_refused` says what stands for it.
 pub fn book_of(sheet: &[u8]) -> Book
     ensures { (S : Sheet) → read_sheet sheet.now ≡ accepted S → result ≡ book_of S }
 {
-    let bytes = match book::translate(sheet) {
-        Err(refused) if refused.fault == Fault::BytesLeftOver => sheet
-            .get(..refused.place)
-            .unwrap_or(sheet),
-        _ => sheet,
-    };
-    book::translate(bytes).unwrap_or(Book {
+    match book::translate(sheet) {
+        Ok(book) => book,
+        Err(refused) => book_of_refused(sheet, refused),
+    }
+}
+
+// Bytes that are left over after the last rule are passed over, and of any other refused sheet no rule is kept.
+fn book_of_refused(sheet: &[u8], refused: Refused) -> Book {
+    if refused.fault == Fault::BytesLeftOver
+        && let Some(rules) = sheet.get(..refused.place)
+        && let Ok(book) = book::translate(rules)
+    {
+        return book;
+    }
+    Book {
         table: [0; tables::LENGTH],
-    })
+    }
 }
 
 // Counts the case as due and, where it agrees, as met. A write that fails leaves it counted as due alone.

@@ -9,16 +9,18 @@ ghost use Rattle.places.specs.Places.{cell_of, place_count, Placed};
 use std::marker::Model;
 use tables::Table;
 
-// A table with the names by their places: range i of fragment f of rule r stands at 128 r + 8 f + i. 64 where no name stands: an `Option<u8>` takes two bytes of the fixed memory for each.
-// The names are lent: a struct that is made of an array by value is a copy of it.
+// The names by their places: range i of fragment f of rule r stands at 128 r + 8 f + i. 64 where no name stands: an `Option<u8>` takes two bytes of the fixed memory for each.
+pub type Places = [u8; 2048];
+
+// A table with its names by their places. The names are lent: a struct that is made of an array by value is a copy of it.
 #[derive(Drop)]
-pub struct Places<'a> {
+pub struct NamedTable<'a> {
     table: &'a Table,
-    names: &'a [u8; 2048],
+    names: &'a Places,
 }
 
 // It is seen as its table. What it keeps is that each place has its name.
-impl<'a> Model for Places<'a> {
+impl<'a> Model for NamedTable<'a> {
     ghost use Rattle.std.specs.Prelude.{List, ℕ};
     ghost use Rattle.places.specs.Places.{Named};
 
@@ -30,7 +32,7 @@ impl<'a> Model for Places<'a> {
 }
 
 // Puts name n at its place in each rule that holds it.
-fn place(names: &mut [u8; 2048], table: &Table, n: usize)
+fn place(names: &mut Places, table: &Table, n: usize)
     requires { (n < 64) × (length names.old ≡ place_count) }
     ensures { Placed table.now n names.old names.new }
 {
@@ -42,16 +44,16 @@ fn place(names: &mut [u8; 2048], table: &Table, n: usize)
     }
 }
 
-impl<'a> Places<'a> {
+impl<'a> NamedTable<'a> {
     // Whatever stands in the room for the names. From the last name to the first, so that the lowest of those that stand at one place is the one that stays.
-    pub fn new(table: &'a Table, names: &'a mut [u8; 2048]) -> Self
+    pub fn new(table: &'a Table, names: &'a mut Places) -> Self
         ensures { result ≡ table.now }
     {
         *names = [64; 2048];
         for n in (0..tables::NAMES).rev() {
             place(names, table, n);
         }
-        Places { table, names }
+        NamedTable { table, names }
     }
 
     pub fn table(&self) -> &'a Table

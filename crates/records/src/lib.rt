@@ -17,13 +17,14 @@ fn time_at(log: &[u8], at: usize) -> u32
     u32::from_le_bytes([log[at], log[at + 1], log[at + 2], log[at + 3]])
 }
 
-// "a name 0 to 63 or FF for a clock reading"; 64 to 254 are names that observing refuses.
+// "a name 0 to 63 or FF for a clock reading"; 64 to 254 are names that observing refuses. "record bytes 0..=63, 64..=254 and 255, decided by match over numbers and ranges": an arm for each.
 fn observation(name: u8, time: u32) -> Observation
     ensures { seen result ≡ observation name time }
 {
     match name {
+        0..=63 => Observation::Event(name, time),
+        64..=254 => Observation::Event(name, time),
         255 => Observation::Clock(time),
-        _ => Observation::Event(name, time),
     }
 }
 

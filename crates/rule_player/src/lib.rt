@@ -10,7 +10,7 @@ ghost use Rattle.rule_player.specs.Said.{range_by, size_by, fragment_by, ranges_
 ghost use Rattle.rule_player.specs.Playing.{record_bytes, Plays};
 ghost use Rattle.rule_player.specs.Passing.{byte_at, put_if, Passes};
 
-use places::Places;
+use places::NamedTable;
 use tables::Table;
 
 // ---- a fragment of the round, as the table says it
@@ -23,7 +23,7 @@ struct Ranges {
 }
 
 impl Ranges {
-    fn at(places: &Places, r: usize, f: usize) -> Ranges
+    fn at(places: &NamedTable, r: usize, f: usize) -> Ranges
         requires { (r < 16) × (f < 16) }
         ensures { result ≡ ranges_at places.now r f }
     {
@@ -73,7 +73,7 @@ struct Turn {
 
 impl Turn {
     // Fragment f of rule r begins.
-    fn new(places: &Places, r: usize, f: usize) -> Turn
+    fn new(places: &NamedTable, r: usize, f: usize) -> Turn
         requires { (r < 16) × (f < 16) }
         ensures { (result.ranges ≡ ranges_at places.now r f) × (result.filling ≡ empty) }
     {
@@ -255,7 +255,7 @@ fn room_in(bytes: usize) -> usize
 
 // The number of its records, which it writes or does not; none if the round is longer than the output. A closure in the place of `writes` would have to promise what `put_if` says of a flag.
 fn pass(
-    places: &Places,
+    places: &NamedTable,
     r: usize,
     time: u32,
     choice: &[u8],
@@ -326,7 +326,7 @@ pub fn play(
     }
     let r = rule as usize;
     let mut names = [0; 2048];
-    let places = Places::new(table, &mut names);
+    let places = NamedTable::new(table, &mut names);
     let Some(n) = pass(&places, r, time, choice, out, false) else {
         return Err(Refusal::TooLong);
     };

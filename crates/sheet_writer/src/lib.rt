@@ -9,7 +9,7 @@ ghost use Rattle.sheet_writer.specs.Parts.{version_field, outputs_field, join_fi
 ghost use Rattle.sheet_writer.specs.Wrote.{HasRoom, Wrote};
 ghost use Rattle.sheet_writer.specs.Writing.{Writes};
 
-use places::Places;
+use places::NamedTable;
 use tables::Table;
 
 // ---- each field, as it is looked up: in the table, or in the cell of a name. A function each, so that it stands beside its definition of the same name in specs/Parts
@@ -73,7 +73,7 @@ fn fragment_count(head: u64) -> usize
 
 // ---- the size
 
-fn rule_size(places: &Places, r: usize) -> usize
+fn rule_size(places: &NamedTable, r: usize) -> usize
     requires { r < 16 }
     ensures { result ≡ length (rule_part places.now r) }
 {
@@ -84,7 +84,7 @@ fn rule_size(places: &Places, r: usize) -> usize
     size
 }
 
-fn size(places: &Places) -> usize
+fn size(places: &NamedTable) -> usize
     ensures { result ≡ length (table_bytes places.now) }
 {
     let mut size = 14usize;
@@ -123,7 +123,7 @@ impl<'a> Writer<'a> {
     }
 
     // Fragment f of rule r.
-    fn put_fragment(&mut self, places: &Places, r: usize, f: usize)
+    fn put_fragment(&mut self, places: &NamedTable, r: usize, f: usize)
         requires { (r < 16) × (f < 16) × HasRoom self.old (fragment_part places.now r f) }
         ensures { Wrote self.old self.new (fragment_part places.now r f) }
     {
@@ -137,7 +137,7 @@ impl<'a> Writer<'a> {
     }
 
     // Rule r: its head, and its fragments.
-    fn put_rule(&mut self, places: &Places, r: usize)
+    fn put_rule(&mut self, places: &NamedTable, r: usize)
         requires { (r < 16) × HasRoom self.old (rule_part places.now r) }
         ensures { Wrote self.old self.new (rule_part places.now r) }
     {
@@ -166,7 +166,7 @@ impl<'a> Writer<'a> {
         self.put(1, rule_count(table) as u64);
     }
 
-    fn put_sheet(&mut self, places: &Places)
+    fn put_sheet(&mut self, places: &NamedTable)
         requires { HasRoom self.old (table_bytes places.now) }
         ensures { Wrote self.old self.new (table_bytes places.now) }
     {
@@ -190,7 +190,7 @@ pub fn write(table: &Table, buffer: &mut [u8]) -> Result<usize, TooShort>
     ensures { Writes table.now buffer.old result buffer.new }
 {
     let mut names = [0; 2048];
-    let places = Places::new(table, &mut names);
+    let places = NamedTable::new(table, &mut names);
     let bytes = size(&places);
     if buffer.len() < bytes {
         return Err(TooShort);

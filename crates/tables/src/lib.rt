@@ -74,11 +74,16 @@ pub fn join(word: u16) -> u8
     (word % 256) as u8
 }
 
+// By cases, not by `min`: the compiler then lays out the eight turns over a fragment's ranges one by one, and keeps no operands for two names at once in the host's image.
 #[tactic(auto, unfolding(crate::specs::Words::count_in))]
 pub fn ranges_in(word: u16) -> u8
     ensures { result ≡ count_in word }
 {
-    (word / 256 % 256).min(8) as u8
+    let n = word / 256 % 256;
+    if 8 < n {
+        return 8;
+    }
+    n as u8
 }
 
 // ---- a range's word

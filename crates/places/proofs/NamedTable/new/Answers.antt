@@ -1,10 +1,10 @@
--- `places::Places::new` meets its contract: from the last name to the first, each place gets the lowest that stands there. Assumes nothing.
+-- `places::NamedTable::new` meets its contract: from the last name to the first, each place gets the lowest that stands there. Assumes nothing.
 use Prim.Native.Nat.{ℕ, ◌-◌}
 use native.Mathlib.Omega.{arith}
 use lib.ListN.{length-replicate}
 use Rattle.places.specs.Places.{place_count}
 use Rattle.places.proofs.Naming.{naming-start, naming-more, naming-end}
-use Rattle.places.proofs.Places.new.Goals as goal
+use Rattle.places.proofs.NamedTable.new.Goals as goal
 
 pub loop-n-init : goal.loop-n-init
 loop-n-init c = (length-replicate {A = ℕ} place_count 64, naming-start c.args.table.now)
