@@ -41,12 +41,20 @@ module _ {table before : List ℕ} {concerned name time : ℕ} where
   stays-refused : {why : Refusal} → taken_of table (held_by before) concerned name time ≡ record { monitor = held_by before; answer = Err why } → Takes table before concerned name time (Err why) before
   stays-refused e = record { gives = stays e; unchanged = λ z. refl; blank = λ l z. absurd (z refl) }
 
-  -- refused by its time, or by the count
-  pub takes-refused : (why : Refusal) → Admits (held_by before) time (Err why) → Takes table before concerned name time (Err why) before
+  -- by its time
+  pub takes-early : time < (held_by before).latest → Takes table before concerned name time (Err FallingTime) before
   unfolding taken_of refused_of
+  takes-early h = stays-refused (rw (lt-ltb time (held_by before).latest h))
+
+  -- by the count
+  pub takes-full : (held_by before).latest ≤ time → 4294967295 ≤ (held_by before).taken → Takes table before concerned name time (Err FullCount) before
+  unfolding taken_of refused_of
+  takes-full h g = stays-refused (rw (le-ltb time (held_by before).latest h, le-leb 4294967295 (held_by before).taken g))
+
+  pub takes-refused : (why : Refusal) → Admits (held_by before) time (Err why) → Takes table before concerned name time (Err why) before
   takes-refused BadName h = absurd h
-  takes-refused FallingTime h = stays-refused (rw (lt-ltb time (held_by before).latest h))
-  takes-refused FullCount h = stays-refused (rw (le-ltb time (held_by before).latest h.0, le-leb 4294967295 (held_by before).taken h.1))
+  takes-refused FallingTime h = takes-early h
+  takes-refused FullCount h = takes-full h.0 h.1
 
   pub takes-judged : {opens dues k : ℕ} {p : Masks} {between after : List ℕ} {v : Verdict} → Admits (held_by before) time (Ok k)
       → opens ≡ (held_by before).mask → dues ≡ (held_by before).dues

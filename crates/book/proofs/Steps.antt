@@ -42,6 +42,15 @@ cell-more ranges r k shared t i e eb ec = turn_more (put_cell ranges r k shared)
 pub stored_more : (f : ℕ → ℕ) (t : List ℕ) (i : ℕ) {table : List ℕ} {x : ℕ} → table ≡ stored f i t → x ≡ f i → set table i x ≡ stored f (i + 1) t
 stored_more f t i e ex = rw (add-one, e, ex)
 
+pub names_more : (ranges : List ℕ) (base i : ℕ) {names n x : ℕ} → names ≡ names_from ranges base i → n ≡ bit_in (get_or ranges (base + i) 0) → x ≡ with_name names n
+    → x ≡ names_from ranges base (i + 1)
+names_more ranges base i {names} {n} e en ex =
+    let small : n ≤ 63 = omega (arith, en, mod-lt (get_or ranges (base + i) 0) (zero-lt-suc 63)) in
+    ex ∙ with-name names n small ∙ rw (add-one, e, en)
+
+pub union_more : (names : List ℕ) (base i : ℕ) {set : ℕ} → set ≡ union_from names base i → bit_or set (get_or names (base + i) 0) ≡ union_from names base (i + 1)
+union_more names base i e = rw (add-one, e)
+
 -- what is made of n numbers of a list, from an index on, one after the other, is the fold over that piece
 pub folded : (f : ℕ → ℕ → ℕ) (made : ℕ → ℕ) (xs : List ℕ) (base : ℕ) → made 0 ≡ 0 → ((n : ℕ) → made (suc n) ≡ f (made n) (get_or xs (base + n) 0))
     → (n : ℕ) → base + n ≤ length xs → made n ≡ fold f 0 (take n (drop base xs))

@@ -5,9 +5,11 @@ use Rattle.std.proofs.lemmas.Result.{err_from_is_err_and, MatchResult-weaker}
 use borrow.Author.Tests.{lt-ltb, le-ltb}
 use Rattle.pattern.specs.Meaning.{Between}
 use Rattle.layout.specs.Form.{Got, got, stopped, next, number, field_at, unless}
+use Rattle.layout.specs.Terms.{no_fault}
 use Rattle.layout.specs.Faults.{outside}
 use Rattle.layout.proofs.Values.{outside-faultless}
 use Rattle.fields.specs.Faults.{number_of, number_or_0}
+use Rattle.fields.specs.Values.{Value}
 use Rattle.fields.specs.Told.{a_field, Read, Stopped, Told, Looked, Settled}
 use Rattle.fields.specs.declared.Fault.{Fault}
 use Rattle.fields.specs.declared.Fault.TheVariants.{DoesNotFit, NoMark, UnknownVersion, OutsideItsValues, NotZero, NoName, BoundTooLow, AlreadyInRule, WrongDirection, BytesLeftOver}
@@ -59,12 +61,17 @@ module _ (s : List ℕ) (n : ℕ) (fault : ℕ → ℕ) (at : ℕ) where
       go true e = absurd (let z : ◌≡◌ {A = ℕ} 0 1 = cc e in omega arith)
       go false e = tested _ refl e
 
+-- a refusal is told by its number and its place
+pub stops_at_lem : {V A : Type 0} {Shows : V → A → Type 0} {old new : Reader} {e : Refused} {G : List ℕ → ℕ → Got A} {k place : ℕ} → G old.bytes.now old.at ≡ stopped k place
+    → (number_of e.fault ≡ k) × (e.place ≡ place) → (new.bytes.now ≡ old.bytes.now) × (new.at ≡ place) → Told Shows old new (Err e) G
+stops_at_lem stops is new = record { same = new.0; says = record { stops = cc (stops, is.0, is.1); stands = cc (new.1, is.1) } }
+
 -- there was no field to test
 pub short : {V : Type 0} {Shows : V → ℕ → Type 0} (n : ℕ) (old : Reader) {r : Result V Refused} {e : Refused} (fault : ℕ → ℕ) → Looked n old (Err e)
     → IsErrAnd r (λ y. y ≡ e) → Told Shows old old r (a_field n fault)
 short n old {r} fault (h, is) err =
     let p = err_from_is_err_and r err in
-    record { same = refl; says = rw (p.1, p.2) (record { stops = field-short old.bytes.now n fault old.at h ∙ rw is; stands = rw is }) }
+    rw (p.1, p.2, is) (stops_at_lem (field-short old.bytes.now n fault old.at h) (refl, refl) (refl, refl))
 
 -- there was one, and its value was tested
 module _ {n : ℕ} {old new : Reader} {x : ℕ} {P : ℕ → Type 0} (fault : ℕ → ℕ) where
@@ -87,6 +94,22 @@ module _ {n : ℕ} {old new : Reader} {x : ℕ} {P : ℕ → Type 0} (fault : �
           stands = told.says.1;
         });
       }
+
+-- a field that was read whatever its value, and the value has a fault: tested, it stops at the field's place
+pub tested_at : (n : ℕ) (fault : ℕ → ℕ) {old new : Reader} {v k : ℕ} → 0 < k → Told (Value n) old new (Ok v) (a_field n no_fault) → fault v ≡ k
+    → field_at old.bytes.now n fault old.at ≡ stopped k old.at
+unfolding field_at
+tested_at n fault {old} {new} {v} {k} pos told e = go (ltb (length old.bytes.now) (old.at + n)) told.says.reads
+  where
+    here : ℕ
+    here = number old.bytes.now n old.at
+
+    go : (b : Bool) → cond b (stopped 1 old.at) (got here (old.at + n)) ≡ got told.says.value new.at
+        → cond b (stopped 1 old.at) (unless old.bytes.now (fault here) here (old.at + n) old.at) ≡ stopped k old.at
+    go true r = absurd (let z : ◌≡◌ {A = ℕ} 0 1 = cc r in omega arith)
+    go false r =
+        let same : here ≡ v = (let read : here ≡ told.says.value = cc r in read ∙ sym told.says.shows.0) in
+        ap (λ (m : ℕ). unless old.bytes.now m here (old.at + n) old.at) (ap fault same ∙ e) ∙ unless-stops old.bytes.now n fault old.at k here (old.at + n) pos
 
 -- a value that is not outside
 pub inside : (k : Fault) (first last x : ℕ) → outside (number_of k) first last x ≡ 0 → Between first last x

@@ -81,6 +81,17 @@ abbrev pub word_of : List ℕ → ℕ
 word_of [] = 0
 word_of (x ∷ xs) = x + 256 * word_of xs
 
+-- the bytes of a word of bytes, as many as there are
+pub bytes_back : (n : ℕ) (x : List ℕ) → length x ≡ n → ((k : ℕ) → k < length x → get_or x k 0 < 256) → digits n (word_of x) ≡ x
+bytes_back zero [] l h = refl
+bytes_back zero (a ∷ x) l h = absurd (omega (arith, l))
+bytes_back (suc n) [] l h = absurd (omega (arith, l))
+bytes_back (suc n) (a ∷ x) l h =
+    let b : a < 256 = h 0 (omega arith) in
+    let low : (a + 256 * word_of x) % 256 ≡ a = omega (arith, b) in
+    let high : (a + 256 * word_of x) / 256 ≡ word_of x = omega (arith, b) in
+    ap₂ (λ (d w : ℕ). d ∷ digits n w) low high ∙ ap (λ (t : List ℕ). a ∷ t) (bytes_back n x (omega (arith, l)) (λ k g. h (suc k) (omega (arith, g))))
+
 pub word_below : (n : ℕ) (x : List ℕ) → length x ≡ n → AreBytes x → word_of x < 256 ^ n
 word_below zero [] l h = omega arith
 word_below zero (a ∷ x) l h = absurd (omega (arith, l))

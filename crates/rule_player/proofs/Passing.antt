@@ -10,8 +10,10 @@ use lib.Dec.{eqb}
 use lib.ListN.{length, get_or, set, drop, replicate, length-append, length-set}
 use lib.Seq.{get_or-set_other, sets}
 use borrow.Author.Tests.{eqb-true, eqb-false}
+use denote.Enum.Declared.{tag_of}
 use Rattle.std.specs.Prelude.{Some, None}
 use Rattle.pattern.specs.Meaning.{Range, Fragment}
+use Rattle.pattern.proofs.Basics.{zero_one}
 use Rattle.tables.specs.Words.{round_in}
 use Rattle.tables.specs.Cells.{head_at}
 use Rattle.rule_player.specs.declared.Filling.{Filling}
@@ -22,6 +24,7 @@ use Rattle.rule_player.specs.Choice.{empty, count_of, comes, step_by, Stand, fir
 use Rattle.rule_player.specs.Said.{listed, size_by, fragment_by, ranges_at, fragment_said, round_said}
 use Rattle.rule_player.specs.Playing.{record_bytes, records_of}
 use Rattle.rule_player.specs.Passing.{byte_at, put_if, leaves, PassesBy, Passes}
+use Rattle.rule_player.specs.contracts.Step.{the_type}
 use Rattle.rule_player.proofs.Said.{size_is, range-is}
 use Rattle.rule_player.proofs.Walk.{Small, chosen-step, chosen_none, named-within}
 
@@ -213,3 +216,9 @@ module _ (table : List ℕ) (r time : ℕ) (choice : List ℕ) (writes : Bool) (
                 let e : suc (n + f) ≡ n + suc f = omega arith in
                 turn ∙ ap (λ (t : Step). said_by (fragment_by x) t ++ chosen_from (leads_to (fragment_by x) rest s (drop (suc (n + f)) choice) t)) step
                 ∙ ap (λ (k : ℕ). chosen_from (record { fragments = rest; filling = empty; bytes = drop k choice })) e
+
+-- ---- a step by the number of its variant
+
+pub is-leave : (t : Step) → tag_of the_type t ≡ 1 → t ≡ Leave
+is-leave (Name i) e = absurd (zero_one e)
+is-leave Leave e = refl

@@ -10,7 +10,8 @@ use lib.Dec.{eqb, ltb, ltb→lt}
 use lib.ListN.{length, get_or, drop}
 use lib.Seq.{sets, sets-eq}
 use borrow.Author.Tests.{lt-ltb, le-ltb}
-use Rattle.std.specs.Prelude.{Option, Some, None, Result, Ok, Err}
+use Rattle.std.specs.Prelude.{Option, Some, None, is_none, Result, Ok, Err}
+use Rattle.std.proofs.lemmas.Bool.{false≢true}
 use Rattle.pattern.proofs.Basics.{both_l}
 use Rattle.layout.specs.Layout.{Sheet, WellFormedSheet}
 use Rattle.tables.specs.Cells.{head_at}
@@ -80,3 +81,9 @@ module _ (table : List ℕ) (r time : ℕ) (choice before : List ℕ) where
         second : (m : Option ℕ) → PassesBy names time true before m after → 5 * length names ≤ length before → after ≡ sets before 0 (records_of time names)
         second (Some k) t room = t.2
         second None t room = absurd (omega (arith, t.0, room))
+
+-- ---- a length by its variant
+
+pub is-longer : (l : Option ℕ) → is_none l ≡ true → l ≡ None
+is-longer (Some n) e = absurd (false≢true e)
+is-longer None e = refl

@@ -5,3 +5,4 @@ pub mod Running
 pub mod Looked
 pub mod Consumed
 pub mod Every
+pub mod Saying

@@ -190,6 +190,24 @@ module _ (size : ℕ) (xs l : List ℕ) (at : ℕ) where
       laid_more 7 (omega (arith, long)) l7 (at + 7 * size) (omega arith) p7
       ∙ ap (λ (ys : List ℕ). sets l at (each (le size) ys)) (take_all 8 xs (omega (arith, long)))
 
+-- eight bytes
+byte-stored : (l : List ℕ) (at x : ℕ) → x < 256 → set l at x ≡ sets l at (le 1 x)
+byte-stored l at x h = let same : x ≡ x % 256 = omega arith in ap (set l at) same
+
+module _ (xs l : List ℕ) (at : ℕ) (long : length xs ≡ 8) (h : (i : ℕ) → get_or xs i 0 < 256) where
+  -- the first, and n after it
+  abbrev bytes-to : ℕ → List ℕ
+  bytes-to zero = set l at (get_or xs 0 0)
+  bytes-to (suc n) = set (bytes-to n) (at + suc n) (get_or xs (suc n) 0)
+
+  last_byte : (n : ℕ) → bytes-to (suc n) ≡ sets (bytes-to n) (at + suc n) (le 1 (get_or xs (suc n) 0))
+  last_byte n = byte-stored (bytes-to n) (at + suc n) (get_or xs (suc n) 0) (h (suc n))
+
+  pub laid-bytes : bytes-to 7 ≡ sets l at (each (le 1) xs)
+  laid-bytes =
+      laid-eight 1 xs l at long (byte-stored l at (get_or xs 0 0) (h 0))
+      (last_byte 0) (last_byte 1) (last_byte 2) (last_byte 3) (last_byte 4) (last_byte 5) (last_byte 6)
+
 -- bytes are numbers of one byte
 pub each-byte : (xs : List ℕ) → ((i : ℕ) → get_or xs i 0 < 256) → each (le 1) xs ≡ xs
 each-byte [] h = refl
