@@ -1,4 +1,4 @@
--- What stands at a place: its name, and, in the table of a rule's cells, the cell of the range there.
+-- What the code reads at a place: the name that stands there, and, in the table of a rule's cells, the cell of the range there.
 -- Assumes nothing.
 use mathlib.Core.Path.{◌≡◌}
 use mathlib.Core.List.{List}
@@ -12,7 +12,7 @@ use Rattle.tables.proofs.Names.{name-few, name-at}
 use Rattle.places.specs.Places.{cell_of, Named}
 
 module _ (table names : List ℕ) (r f i : ℕ) (at : Named table names × (r < 16) × (f < 16) × (i < 8)) where
-  name-read : get_or names (128 * r + 8 * f + i) 0 ≡ name_at table r f i
+  pub name-read : get_or names (128 * r + 8 * f + i) 0 ≡ name_at table r f i
   name-read = let (named, hr, hf, hi) = at in named r f i hr hf hi
 
   pub read-few : get_or names (128 * r + 8 * f + i) 0 ≤ 64

@@ -1,4 +1,4 @@
--- What is left of an answer when the cases of some arms are taken away, and what a verdict says that was told as an answer. docs/PORT.md names these; no match in the code needs them.
+-- What is left of an answer when the cases of other arms are taken away, and what a verdict says that was told as an answer. Each arm of the code's matches names its cases, so that none cites these.
 -- Assumes nothing.
 use mathlib.Core.Path.{◌≡◌, refl, ap}
 use mathlib.Core.Logic.{◌⊎◌, inl, inr, ⊎_elim}
@@ -15,7 +15,7 @@ use Rattle.answers.specs.declared.Refusal.{Refusal}
 use Rattle.monitor.specs.Promise.{verdict_in}
 use Rattle.runner.specs.Log.{open_mask}
 
--- document 01's number of an answer
+-- an answer's case, by document 01's number
 abbrev variant : Answer → ℕ
 variant a = (values_of a).answer
 
