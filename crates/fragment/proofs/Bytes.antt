@@ -11,9 +11,7 @@ use lib.Dec.{eqb}
 use lib.Pow.{pow-add, shl_exact}
 use lib.ListN.{length, get_or, set, length-set}
 use lib.Seq.{get_or-set_same, get_or-set_other}
-use Rattle.std.specs.Int.{w64, to_le_bytes, from_le_bytes}
-use Rattle.std.specs.Int.{bytes_low_first}
-use Rattle.std.proofs.lemmas.Nat.{le_bytes_8}
+use Rattle.std.specs.Int.{w64, from_le_bytes, bytes_low_first}
 use borrow.Author.Tests.{eqb-true, eqb-false}
 use Rattle.recogniser.specs.Counts.{saturated}
 use Rattle.fragment.specs.Fragments.{digits}
@@ -62,17 +60,20 @@ eight-set {A} x i new d a₀ a₁ a₂ a₃ a₄ a₅ a₆ a₇ l h₀ h₁ h₂
 -- ---- bytes
 
 abbrev pub AreBytes : List ℕ → Type 0
-AreBytes x = (k : ℕ) → get_or x k 0 < 256
+AreBytes x = (k : ℕ) → k < length x → get_or x k 0 < 256
 
 tail-bytes : (a : ℕ) (x : List ℕ) → AreBytes (a ∷ x) → AreBytes x
-tail-bytes a x h k = h (suc k)
+tail-bytes a x h k g = h (suc k) (omega (arith, g))
 
 pub set-bytes : (x : List ℕ) (i s : ℕ) → AreBytes x → s < 256 → AreBytes (set x i s)
-set-bytes [] i s h b k = h k
-set-bytes (a ∷ x) zero s h b zero = b
-set-bytes (a ∷ x) zero s h b (suc k) = h (suc k)
-set-bytes (a ∷ x) (suc i) s h b zero = h 0
-set-bytes (a ∷ x) (suc i) s h b (suc k) = set-bytes x i s (tail-bytes a x h) b k
+set-bytes x i s h b k g = look (eqb i k) (set_at x i k s 0 inside)
+  where
+    inside : k < length x
+    inside = subst (λ (n : ℕ). k < n) (length-set x i s) g
+
+    look : (c : Bool) → get_or (set x i s) k 0 ≡ cond c s (get_or x k 0) → get_or (set x i s) k 0 < 256
+    look true e = omega (arith, e, b)
+    look false e = omega (arith, e, h k inside)
 
 -- ---- a list of bytes and its word
 
@@ -81,8 +82,8 @@ abbrev pub word_of : List ℕ → ℕ
 word_of [] = 0
 word_of (x ∷ xs) = x + 256 * word_of xs
 
--- the bytes of a word of bytes, as many as there are
-pub bytes_back : (n : ℕ) (x : List ℕ) → length x ≡ n → ((k : ℕ) → k < length x → get_or x k 0 < 256) → digits n (word_of x) ≡ x
+-- the bytes of a word of bytes
+pub bytes_back : (n : ℕ) (x : List ℕ) → length x ≡ n → AreBytes x → digits n (word_of x) ≡ x
 bytes_back zero [] l h = refl
 bytes_back zero (a ∷ x) l h = absurd (omega (arith, l))
 bytes_back (suc n) [] l h = absurd (omega (arith, l))
@@ -90,7 +91,7 @@ bytes_back (suc n) (a ∷ x) l h =
     let b : a < 256 = h 0 (omega arith) in
     let low : (a + 256 * word_of x) % 256 ≡ a = omega (arith, b) in
     let high : (a + 256 * word_of x) / 256 ≡ word_of x = omega (arith, b) in
-    ap₂ (λ (d w : ℕ). d ∷ digits n w) low high ∙ ap (λ (t : List ℕ). a ∷ t) (bytes_back n x (omega (arith, l)) (λ k g. h (suc k) (omega (arith, g))))
+    ap₂ (λ (d w : ℕ). d ∷ digits n w) low high ∙ ap (λ (t : List ℕ). a ∷ t) (bytes_back n x (omega (arith, l)) (tail-bytes a x h))
 
 pub word_below : (n : ℕ) (x : List ℕ) → length x ≡ n → AreBytes x → word_of x < 256 ^ n
 word_below zero [] l h = omega arith
@@ -99,7 +100,7 @@ word_below (suc n) [] l h = absurd (omega (arith, l))
 word_below (suc n) (a ∷ x) l h =
     let e : suc n ≡ 1 + n = omega arith in
     let p : 256 ^ suc n ≡ 256 * 256 ^ n = ap (λ (m : ℕ). 256 ^ m) e ∙ pow-add 256 1 n in
-    let b : a < 256 = h 0 in
+    let b : a < 256 = h 0 (omega arith) in
     omega (arith, p, b, word_below n x (omega (arith, l)) (tail-bytes a x h))
 
 -- std's word for the word of eight bytes
@@ -143,10 +144,10 @@ drop-byte a w i b =
 pub byte_at : (x : List ℕ) (i : ℕ) → AreBytes x → i < length x → word_of x / 2 ^ (8 * i) % 256 ≡ get_or x i 0
 byte_at [] i h g = absurd (not-suc-le-zero g)
 byte_at (a ∷ x) zero h g =
-    let b : a < 256 = h 0 in
+    let b : a < 256 = h 0 g in
     let low : (a + 256 * word_of x) % 256 ≡ a = omega (arith, b) in
     ap (λ (n : ℕ). n % 256) (div-one (a + 256 * word_of x)) ∙ low
-byte_at (a ∷ x) (suc i) h g = ap (λ (n : ℕ). n % 256) (drop-byte a (word_of x) i (h 0)) ∙ byte_at x i (tail-bytes a x h) (omega (arith, g))
+byte_at (a ∷ x) (suc i) h g = ap (λ (n : ℕ). n % 256) (drop-byte a (word_of x) i (h 0 (omega arith))) ∙ byte_at x i (tail-bytes a x h) (omega (arith, g))
 
 -- the new byte in the place of the old one
 pub word_set : (x : List ℕ) (i s : ℕ) → i < length x → word_of (set x i s) + get_or x i 0 * 2 ^ (8 * i) ≡ word_of x + s * 2 ^ (8 * i)
@@ -162,25 +163,22 @@ old_byte w i = (w / 2 ^ (8 * i) % 256 * 2 ^ (8 * i)) % 2 ^ 64
 abbrev pub replace_byte : ℕ → ℕ → ℕ → ℕ
 replace_byte w i s = w - old_byte w i + (s * 2 ^ (8 * i)) % 2 ^ 64
 
-module _ (x : List ℕ) (i s w : ℕ) (eight : length x ≡ 8) (bytes : AreBytes x) (within : i < 8) (small : s < 256) (packed : w ≡ from_le_bytes w64 x) where
+module _ (x : List ℕ) (i s w : ℕ) (eight : length x ≡ 8) (bytes : AreBytes x) (within : i < 8) (small : s < 256) (packed : w ≡ word_of x) where
   inside : i < length x
   inside = omega (arith, eight, within)
-
-  word : w ≡ word_of x
-  word = packed ∙ from-le x eight
 
   -- a byte at place i fits the word
   shifted : (b : ℕ) → b < 256 → (b * 2 ^ (8 * i)) % 2 ^ 64 ≡ b * 2 ^ (8 * i)
   shifted b h = shl_exact {a = b} 8 (8 * i) 64 h (omega (arith, within))
 
   old-byte : old_byte w i ≡ get_or x i 0 * 2 ^ (8 * i)
-  old-byte = rw word (ap (λ (n : ℕ). (n * 2 ^ (8 * i)) % 2 ^ 64) (byte_at x i bytes inside) ∙ shifted (get_or x i 0) (bytes i))
+  old-byte = rw packed (ap (λ (n : ℕ). (n * 2 ^ (8 * i)) % 2 ^ 64) (byte_at x i bytes inside) ∙ shifted (get_or x i 0) (bytes i inside))
 
   pub old_below : old_byte w i ≤ w
-  old_below = omega (arith, word, old-byte, word_set x i 0 inside)
+  old_below = omega (arith, packed, old-byte, word_set x i 0 inside)
 
   replaced : replace_byte w i s ≡ word_of (set x i s)
-  replaced = omega (arith, word, old-byte, old_below, shifted s small, word_set x i s inside)
+  replaced = omega (arith, packed, old-byte, old_below, shifted s small, word_set x i s inside)
 
   set-eight : length (set x i s) ≡ 8
   set-eight = length-set x i s ∙ eight
@@ -188,8 +186,8 @@ module _ (x : List ℕ) (i s w : ℕ) (eight : length x ≡ 8) (bytes : AreBytes
   pub replaced-below : replace_byte w i s < 2 ^ 64
   replaced-below = subst (λ (n : ℕ). n < 2 ^ 64) (sym replaced) (word_below 8 (set x i s) set-eight (set-bytes x i s bytes small))
 
-  pub replaced-bytes : to_le_bytes w64 (replace_byte w i s) ≡ set x i s
-  replaced-bytes = le_bytes_8 (set x i s) _ set-eight (set-bytes x i s bytes small) (replaced ∙ sym (from-le (set x i s) set-eight))
+  pub replaced-bytes : digits 8 (replace_byte w i s) ≡ set x i s
+  replaced-bytes = ap (digits 8) replaced ∙ bytes_back 8 (set x i s) set-eight (set-bytes x i s bytes small)
 
 -- eight choices, of which the one that is made raises a count
 abbrev raised_at : List ℕ → ℕ → ℕ → ℕ
